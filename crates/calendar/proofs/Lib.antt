@@ -1,0 +1,5 @@
+pub mod Answers
+pub mod Holidays
+pub mod EasterTable
+pub mod OpenDays
+pub mod Years

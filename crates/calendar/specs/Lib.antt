@@ -1,0 +1,5 @@
+pub mod Answers
+pub mod Easter
+pub mod Gregorian
+pub mod Target
+pub mod YearDay

@@ -1,0 +1,64 @@
+-- Numbers as bytes: how many, what they read as, and what a number reads and writes as.
+-- Assumes nothing.
+use mathlib.Core.Path.{_≡_, refl}
+use mathlib.Core.List.{List, [], _∷_, _++_}
+use Prim.Native.Nat.{ℕ, zero, suc, _+_, _*_, _/_, _%_, _^_, _≤_, _<_}
+use native.Mathlib.Nat.{pow-suc, pow-le-pow-right, div-add-mod'}
+use native.Mathlib.Numerals.{add-one}
+use native.Mathlib.Omega.{arith}
+use lib.Dec.{lit<}
+use lib.ListN.{length, getD, take, drop, length-append, length-drop, List·getD-append}
+use lib.Seq.{take-suc, getD-drop, getD-at}
+use Rattle.laws.specs.Numbers.{numberAt, bytesOf}
+
+pub number-first : (b : List ℕ) (at : ℕ) → 0 ≡ numberAt b at 0
+unfolding numberAt
+number-first b at = refl
+
+-- one byte more, in the code's i + 1
+pub number-next : (b : List ℕ) (at i : ℕ) {n d : ℕ} → n ≡ numberAt b at i → d ≡ getD b (at + i) 0 → n * 256 + d ≡ numberAt b at (i + 1)
+unfolding numberAt
+number-next b at i e g = rw (add-one, e, g)
+
+-- one byte more keeps a number within its bytes
+pub within-next : {n d : ℕ} (i : ℕ) → n < 256 ^ i → d < 256 → n * 256 + d < 256 ^ (i + 1)
+within-next i h l = rw add-one (omega (arith, pow-suc 256 i))
+
+-- a number of at most seven bytes leaves room for one more in 64 bits
+pub room : {n : ℕ} (i : ℕ) → n < 256 ^ i → i ≤ 7 → n < 72057594037927936
+room i h l = omega (arith, pow-le-pow-right {n = 256} (lit< tt) l)
+
+-- the same bytes, the same number
+pub number-same : (b c : List ℕ) (p q w : ℕ) → ((i : ℕ) → i < w → getD b (p + i) 0 ≡ getD c (q + i) 0) → numberAt b p w ≡ numberAt c q w
+unfolding numberAt
+number-same b c p q zero h = refl
+number-same b c p q (suc w) h = omega (arith, number-same b c p q w (λ i l. h i (omega arith)), h w (omega arith))
+
+pub bytes-length : (w x : ℕ) → length (bytesOf w x) ≡ w
+unfolding bytesOf
+bytes-length zero x = refl
+bytes-length (suc w) x = simp (length-append, bytes-length w (x / 256)) (omega arith)
+
+-- the bytes of a number read as the number
+pub number-bytes : (w x : ℕ) → x < 256 ^ w → numberAt (bytesOf w x) 0 w ≡ x
+unfolding numberAt bytesOf
+number-bytes zero x h = omega arith
+number-bytes (suc w) x h =
+    let high = bytesOf w (x / 256) in
+    let few : x / 256 < 256 ^ w = omega (arith, pow-suc 256 w) in
+    let same : numberAt (high ++ (x % 256 ∷ [])) 0 w ≡ numberAt high 0 w =
+    number-same (high ++ (x % 256 ∷ [])) high 0 0 w (λ i l. List·getD-append high (x % 256 ∷ []) 0 (0 + i) (omega (arith, bytes-length w (x / 256)))) in
+    let last : getD (high ++ (x % 256 ∷ [])) (0 + w) 0 ≡ x % 256 = getD-at high (x % 256) [] 0 (0 + w) (omega (arith, bytes-length w (x / 256))) in
+    omega (arith, same, number-bytes w (x / 256) few, last, div-add-mod' x 256)
+
+-- the number that bytes read as has those bytes
+pub bytes-number : (b : List ℕ) (at w : ℕ) → ((i : ℕ) → getD b i 0 < 256) → at + w ≤ length b → bytesOf w (numberAt b at w) ≡ take w (drop at b)
+unfolding numberAt bytesOf
+bytes-number b at zero h l = refl
+bytes-number b at (suc w) h l =
+    let n = numberAt b at w in
+    let d = getD b (at + w) 0 in
+    let quotient : (n * 256 + d) / 256 ≡ n = omega (arith, h (at + w)) in
+    let rest : (n * 256 + d) % 256 ≡ d = omega (arith, h (at + w)) in
+    let long : w < length (drop at b) = simp length-drop (omega arith) in
+    rw (quotient, rest, bytes-number b at w h (omega arith), take-suc (drop at b) w 0 long, getD-drop at b w 0)

@@ -1,0 +1,4 @@
+pub mod Frees
+pub mod Legal
+pub mod Parcels
+pub mod Picks

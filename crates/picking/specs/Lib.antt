@@ -1,0 +1,4 @@
+pub mod Answers
+pub mod Free
+pub mod Lots
+pub mod Pick

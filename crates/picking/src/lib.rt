@@ -1,0 +1,397 @@
+// Pick: collateral for an amount out of an account. Free: collateral that a position no longer needs.
+// Both work on the numbers of one account or position and of the securities, without the book.
+ghost use mathlib.Core.Path.{_≡_};
+ghost use Prim.Native.Nat.{_<_, _≤_, _-_, _*_, _/_, min};
+ghost use lib.ListN.{getD};
+ghost use Rattle.baskets.specs.Basket.{eligible};
+ghost use Rattle.securities.specs.Position.{worth, nominalsOf, Within};
+ghost use Rattle.securities.specs.Security.{securityAt, InBounds, AllInBounds, AllQuoted};
+ghost use Rattle.valuation.specs.Value.{value, Bounded};
+ghost use Rattle.picking.specs.Answers.{pickedFor, freedDown, legalPick, legalDays, legalFree, pickRefused, freeRefused};
+ghost use Rattle.picking.specs.Free.{freed};
+ghost use Rattle.picking.specs.Lots.{parcelToPick, parcelToSpare, nominalToKeep, parcelBack, firstToFree};
+ghost use Rattle.picking.specs.Pick.{butNot, parcelFrom, picked};
+use answers::BAD_DAY;
+use answers::OUT_OF_RANGE;
+use baskets::Basket;
+use securities::Security;
+use valuation::Pricing;
+
+// A nominal of one security and a value in cents.
+pub struct Parcel {
+    pub nominal: u64,
+    pub value: u64,
+}
+
+// A pick's outcome: the nominal picked of each security, the value found in cents, and how many securities.
+#[repr(C)]
+pub struct Outcome {
+    pub nominals: [u64; 64],
+    pub value: u64,
+    pub count: u64,
+}
+
+// What a free leaves: the nominal given back of each security, the value of the position left, and how many securities gave back.
+#[repr(C)]
+pub struct Freed {
+    pub nominals: [u64; 64],
+    pub left: u64,
+    pub count: u64,
+}
+
+// For a host: code 0 with the outcome, or the code of a refusal with zeros.
+#[repr(C)]
+pub struct PickAnswer {
+    pub code: u64,
+    pub outcome: Outcome,
+}
+
+#[repr(C)]
+pub struct FreeAnswer {
+    pub code: u64,
+    pub freed: Freed,
+}
+
+fn smaller(a: u64, b: u64) -> u64
+    ensures { λ r. ⌜ r ≡ min a b ⌝ }
+{
+    if a <= b { a } else { b }
+}
+
+// The whole lots of a nominal; the division is of 32 bits, which is quicker.
+fn whole_lots(nominal: u64, lot: u64) -> u64
+    requires { ⌜ (nominal ≤ 500000000) × (0 < lot) × (lot ≤ 1000000) ⌝ }
+    ensures { λ r. ⌜ (r ≡ nominal / lot * lot) × (r ≤ nominal) ⌝ }
+{
+    let n = nominal as u32;
+    let l = lot as u32;
+    (n / l * l) as u64
+}
+
+// As many whole lots of the account as are worth no more than what remains.
+fn parcel_to_pick(s: Security, account: u64, remains: u64) -> Parcel
+    requires { ⌜ (account ≤ 500000000) × InBounds s ⌝ }
+    ensures { λ r. ⌜ r ≡ parcelToPick s account remains ⌝ }
+{
+    let lot = s.lot;
+    let pricing = s.pricing;
+    if lot == 0 {
+        return Parcel {
+            nominal: 0,
+            value: 0,
+        };
+    }
+    if account < lot {
+        return Parcel {
+            nominal: 0,
+            value: 0,
+        };
+    }
+    if remains < valuation::value_of(lot, pricing) {
+        return Parcel {
+            nominal: 0,
+            value: 0,
+        };
+    }
+    let all = whole_lots(account, lot);
+    let worth = valuation::value_of(all, pricing);
+    if worth <= remains {
+        return Parcel {
+            nominal: all,
+            value: worth,
+        };
+    }
+    let most = smaller(account, valuation::nominal_within(remains, pricing));
+    let nominal = whole_lots(most, lot);
+    Parcel {
+        nominal,
+        value: valuation::value_of(nominal, pricing),
+    }
+}
+
+// Is the security i eligible for a basket, and not the one left out?
+fn is_allowed(basket: Basket, today: u64, omitted: u64, columns: &[u64; 256], i: usize) -> bool
+    requires { ⌜ (i < 64) × (basket .oldest ≤ 255) × (today ≤ 146096) × AllInBounds (now columns) × AllQuoted (now columns) ⌝ }
+    ensures { λ r. ⌜ r ≡ butNot omitted (eligible basket today (now (columns .entry))) i ⌝ }
+{
+    if i as u64 == omitted {
+        return false;
+    }
+    baskets::is_eligible(basket, today, columns, i)
+}
+
+// What the pick takes from security i. Whether it is eligible is asked last: it costs most.
+fn parcel_from(
+    account: &[u64; 64],
+    columns: &[u64; 256],
+    basket: Basket,
+    today: u64,
+    omitted: u64,
+    i: usize,
+    remains: u64,
+) -> Parcel
+    requires { ⌜ (i < 64) × (basket .oldest ≤ 255) × (today ≤ 146096) × AllInBounds (now columns) × AllQuoted (now columns) × Within (nominalsOf (now account)) ⌝ }
+    ensures { λ r. ⌜ r ≡ parcelFrom (now (columns .entry)) (now (account .entry)) (butNot omitted (eligible basket today (now (columns .entry)))) i remains ⌝ }
+{
+    let p = parcel_to_pick(securities::security_at(columns, i), account[i], remains);
+    if p.nominal == 0 {
+        return p;
+    }
+    if is_allowed(basket, today, omitted, columns, i) {
+        p
+    } else {
+        Parcel {
+            nominal: 0,
+            value: 0,
+        }
+    }
+}
+
+// Picks an amount from an account out of the securities that are eligible for a basket, by rising number; one may be left out.
+pub fn pick(
+    account: &[u64; 64],
+    columns: &[u64; 256],
+    basket: Basket,
+    today: u64,
+    omitted: u64,
+    amount: u64,
+) -> Outcome
+    requires { ⌜ (basket .oldest ≤ 255) × (today ≤ 146096) × AllInBounds (now columns) × AllQuoted (now columns) × Within (nominalsOf (now account)) ⌝ }
+    ensures { λ r. ⌜ r ≡ picked (now (columns .entry)) (now (account .entry)) (butNot omitted (eligible basket today (now (columns .entry)))) amount ⌝ }
+{
+    let mut nominals = [0u64; 64];
+    let mut value: u64 = 0;
+    let mut count: u64 = 0;
+    let mut i: usize = 0;
+    while i < 64 {
+        let p = parcel_from(account, columns, basket, today, omitted, i, amount - value);
+        nominals[i] = p.nominal;
+        value += p.value;
+        count += smaller(p.nominal, 1);
+        i += 1;
+    }
+    Outcome {
+        nominals,
+        value,
+        count,
+    }
+}
+
+// Picks an amount from an account out of all securities that are eligible for a basket.
+pub fn pick_for(
+    account: &[u64; 64],
+    columns: &[u64; 256],
+    basket: Basket,
+    today: u64,
+    amount: u64,
+) -> Outcome
+    requires { ⌜ (basket .oldest ≤ 255) × (today ≤ 146096) × AllInBounds (now columns) × AllQuoted (now columns) × Within (nominalsOf (now account)) ⌝ }
+    ensures { λ r. ⌜ r ≡ picked (now (columns .entry)) (now (account .entry)) (eligible basket today (now (columns .entry))) amount ⌝ }
+{
+    pick(account, columns, basket, today, 64, amount)
+}
+
+// The least nominal that, with the others, is worth the exposure.
+fn nominal_to_keep(others: u64, exposure: u64, pricing: Pricing) -> u64
+    requires { ⌜ (1 ≤ pricing .price) × Bounded pricing ⌝ }
+    ensures { λ r. ⌜ r ≡ nominalToKeep others exposure pricing ⌝ }
+{
+    if exposure <= others {
+        return 0;
+    }
+    valuation::nominal_within(exposure - others - 1, pricing) + 1
+}
+
+// As many lots as can go while a position stays worth the exposure, with what it loses in value.
+fn parcel_to_free(s: Security, nominal: u64, worth: u64, exposure: u64) -> Parcel
+    requires { ⌜ (nominal ≤ 500000000) × (value (s .pricing) nominal ≤ worth) × InBounds s ⌝ }
+    ensures { λ r. ⌜ r ≡ parcelToSpare s nominal (worth - value (s .pricing) nominal) exposure ⌝ }
+{
+    let lot = s.lot;
+    let pricing = s.pricing;
+    if lot == 0 {
+        return Parcel {
+            nominal: 0,
+            value: 0,
+        };
+    }
+    if nominal < lot {
+        return Parcel {
+            nominal: 0,
+            value: 0,
+        };
+    }
+    let held = valuation::value_of(nominal, pricing);
+    let keep = nominal_to_keep(worth - held, exposure, pricing);
+    if nominal < keep {
+        return Parcel {
+            nominal: 0,
+            value: 0,
+        };
+    }
+    let given = whole_lots(nominal - keep, lot);
+    if given == 0 {
+        return Parcel {
+            nominal: 0,
+            value: 0,
+        };
+    }
+    let left = valuation::value_of(nominal - given, pricing);
+    Parcel {
+        nominal: given,
+        value: held - left,
+    }
+}
+
+// What the free gives back of security i.
+fn parcel_back(
+    position: &[u64; 64],
+    columns: &[u64; 256],
+    i: usize,
+    worth: u64,
+    exposure: u64,
+) -> Parcel
+    requires { ⌜ (i < 64) × AllInBounds (now columns) × Within (nominalsOf (now position)) × (value (securityAt (now columns) i .pricing) (getD (now position) i 0) ≤ worth) ⌝ }
+    ensures { λ r. ⌜ r ≡ parcelBack (now (columns .entry)) (now (position .entry)) i worth exposure ⌝ }
+{
+    parcel_to_free(
+        securities::security_at(columns, i),
+        position[i],
+        worth,
+        exposure,
+    )
+}
+
+// Where Free begins: above the highest security, or, since a position below the exposure gives nothing, at its end.
+fn first_to_free(worth: u64, exposure: u64) -> usize
+    ensures { λ r. ⌜ r ≡ firstToFree worth exposure ⌝ }
+{
+    if worth < exposure { 0 } else { 64 }
+}
+
+// Frees a position down to an exposure, by falling number.
+pub fn free(position: &[u64; 64], columns: &[u64; 256], exposure: u64) -> Freed
+    requires { ⌜ AllInBounds (now columns) × Within (nominalsOf (now position)) ⌝ }
+    ensures { λ r. ⌜ r ≡ freed (now (columns .entry)) (now (position .entry)) exposure ⌝ }
+{
+    let mut nominals = [0u64; 64];
+    let mut left = securities::worth_of(position, columns);
+    let mut count: u64 = 0;
+    let mut i: usize = first_to_free(left, exposure);
+    while 0 < i {
+        i -= 1;
+        let p = parcel_back(position, columns, i, left, exposure);
+        nominals[i] = p.nominal;
+        left -= p.value;
+        count += smaller(p.nominal, 1);
+    }
+    Freed {
+        nominals,
+        left,
+        count,
+    }
+}
+
+// Are the numbers of a pick in their ranges?
+fn is_legal_pick(account: &[u64; 64], columns: &[u64; 256], basket: Basket, amount: u64) -> bool
+    ensures { λ r. ⌜ r ≡ legalPick (now (columns .entry)) (now (account .entry)) basket amount ⌝ }
+{
+    if !securities::are_nominals(account) {
+        return false;
+    }
+    if !securities::are_legal(columns) {
+        return false;
+    }
+    if basket.map == 0 {
+        return false;
+    }
+    if 255 < basket.oldest {
+        return false;
+    }
+    amount <= 10000000000000
+}
+
+// Are the days of a pick open, and no quote after today?
+fn are_legal_days(columns: &[u64; 256], today: u64) -> bool
+    ensures { λ r. ⌜ r ≡ legalDays (now (columns .entry)) today ⌝ }
+{
+    if !calendar::is_open(today) {
+        return false;
+    }
+    securities::are_quoted(today, columns)
+}
+
+// Are the numbers of a free in their ranges?
+fn is_legal_free(position: &[u64; 64], columns: &[u64; 256], exposure: u64) -> bool
+    ensures { λ r. ⌜ r ≡ legalFree (now (columns .entry)) (now (position .entry)) exposure ⌝ }
+{
+    if !securities::are_nominals(position) {
+        return false;
+    }
+    if !securities::are_legal(columns) {
+        return false;
+    }
+    exposure <= 10000000000000
+}
+
+fn refuse_pick(code: u64) -> PickAnswer
+    ensures { λ r. ⌜ r ≡ pickRefused code ⌝ }
+{
+    let outcome = Outcome {
+        nominals: [0; 64],
+        value: 0,
+        count: 0,
+    };
+    PickAnswer { code, outcome }
+}
+
+fn refuse_free(code: u64) -> FreeAnswer
+    ensures { λ r. ⌜ r ≡ freeRefused code ⌝ }
+{
+    let freed = Freed {
+        nominals: [0; 64],
+        left: 0,
+        count: 0,
+    };
+    FreeAnswer { code, freed }
+}
+
+// Picks an amount from an account for a basket, for any numbers. Code 4 where one is out of its range,
+// 7 where today or the quote day of a security set up is not open, or a quote is after today.
+#[no_mangle]
+pub extern "C" fn picking_pick(
+    account: &[u64; 64],
+    columns: &[u64; 256],
+    map: u64,
+    oldest: u64,
+    today: u64,
+    amount: u64,
+) -> PickAnswer
+    ensures { λ r. ⌜ r ≡ pickedFor (now (columns .entry)) (now (account .entry)) (record { map = map; oldest = oldest }) today amount ⌝ }
+{
+    let basket = Basket { map, oldest };
+    if !is_legal_pick(account, columns, basket, amount) {
+        return refuse_pick(OUT_OF_RANGE);
+    }
+    if !are_legal_days(columns, today) {
+        return refuse_pick(BAD_DAY);
+    }
+    let outcome = pick_for(account, columns, basket, today, amount);
+    PickAnswer { code: 0, outcome }
+}
+
+// Frees a position down to an exposure, for any numbers. Code 4 where one is out of its range.
+#[no_mangle]
+pub extern "C" fn picking_free(
+    position: &[u64; 64],
+    columns: &[u64; 256],
+    exposure: u64,
+) -> FreeAnswer
+    ensures { λ r. ⌜ r ≡ freedDown (now (columns .entry)) (now (position .entry)) exposure ⌝ }
+{
+    if !is_legal_free(position, columns, exposure) {
+        return refuse_free(OUT_OF_RANGE);
+    }
+    let freed = free(position, columns, exposure);
+    FreeAnswer { code: 0, freed }
+}

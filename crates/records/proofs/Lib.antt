@@ -1,0 +1,7 @@
+pub mod Fields
+pub mod Images
+pub mod Places
+pub mod Puts
+pub mod Ranges
+pub mod RoundTrip
+pub mod Ways

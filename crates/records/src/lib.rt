@@ -1,0 +1,188 @@
+// Records: one byte of kind, then the kind's fields, big-endian. A reader and a writer over the one table of src/kinds.rt.
+ghost use mathlib.Core.Path.{_≡_};
+ghost use mathlib.Core.List.{_++_};
+ghost use Prim.Native.Nat.{_+_, _≤_, _<_};
+ghost use lib.ListN.{length, getD, take, drop};
+ghost use Rattle.laws.specs.Filled.{filled};
+ghost use Rattle.records.specs.Kinds.{offsetOf, lengthOf, inRange, inRanges};
+ghost use Rattle.laws.specs.Numbers.{numberAt, bytesOf};
+ghost use Rattle.records.specs.Reading.{read, refused, fieldIn};
+ghost use Rattle.records.specs.Writing.{areLegal, image, writeCode, written};
+use answers::MALFORMED;
+use answers::OUT_OF_RANGE;
+
+mod kinds;
+
+// What the reader answers: code 0, the kind and the numbers of its fields in order, 0 past the last;
+// or the code of a refusal and zeros.
+#[repr(C)]
+pub struct Reading {
+    pub code: u64,
+    pub kind: u64,
+    pub fields: [u64; 8],
+}
+
+// The bytes of a record of a kind, its kind's byte included.
+fn length_of(k: usize) -> usize
+    requires { ⌜ k < 13 ⌝ }
+    ensures { λ r. ⌜ r ≡ lengthOf k ⌝ }
+{
+    let mut n: usize = 1;
+    let mut j: usize = 0;
+    while j < 8 {
+        n += kinds::field_of(k, j).bytes;
+        j += 1;
+    }
+    n
+}
+
+// Is a number in the range of the field j of the kind k?
+fn is_in_range(k: usize, j: usize, x: u64) -> bool
+    requires { ⌜ (k < 13) × (j < 8) ⌝ }
+    ensures { λ r. ⌜ r ≡ inRange k j x ⌝ }
+{
+    let f = kinds::field_of(k, j);
+    if x < f.least {
+        return false;
+    }
+    x <= f.greatest
+}
+
+// Are the eight numbers in the ranges of the kind's fields?
+fn are_in_ranges(k: usize, fields: &[u64; 8]) -> bool
+    requires { ⌜ k < 13 ⌝ }
+    ensures { λ r. ⌜ r ≡ areLegal k (now (fields .entry)) ⌝ }
+{
+    let mut j: usize = 0;
+    while j < 8 {
+        if !is_in_range(k, j, fields[j]) {
+            return false;
+        }
+        j += 1;
+    }
+    true
+}
+
+fn wide(x: u8) -> u64
+    ensures { λ r. ⌜ (r ≡ x) × (r < 256) ⌝ }
+{
+    x as u64
+}
+
+// The number in the w bytes from a place on, the highest first.
+fn number_at(bytes: &[u8], at: usize, w: usize) -> u64
+    requires { ⌜ (at + w ≤ length (now bytes)) × (w ≤ 8) ⌝ }
+    ensures { λ r. ⌜ r ≡ numberAt (now (bytes .entry)) at w ⌝ }
+{
+    let mut n: u64 = 0;
+    let mut i: usize = 0;
+    while i < w {
+        n = n * 256 + wide(bytes[at + i]);
+        i += 1;
+    }
+    n
+}
+
+// The numbers of the eight places of a record of kind k.
+fn fields_of(bytes: &[u8], k: usize) -> [u64; 8]
+    requires { ⌜ (k < 13) × (length (now bytes) ≡ lengthOf k) ⌝ }
+    ensures { λ r. ⌜ r ≡ filled (fieldIn (now (bytes .entry)) k) 8 8 ⌝ }
+{
+    let mut fields = [0u64; 8];
+    let mut at: usize = 1;
+    let mut j: usize = 0;
+    while j < 8 {
+        let w = kinds::field_of(k, j).bytes;
+        fields[j] = number_at(bytes, at, w);
+        at += w;
+        j += 1;
+    }
+    fields
+}
+
+fn refuse(code: u64) -> Reading
+    ensures { λ r. ⌜ r ≡ refused code ⌝ }
+{
+    Reading {
+        code,
+        kind: 0,
+        fields: [0; 8],
+    }
+}
+
+// Reads a record: code 3 for no or an unknown kind or another length, 4 for a field out of its range.
+#[no_mangle]
+pub extern "C" fn records_read(bytes: &[u8]) -> Reading
+    ensures { λ r. ⌜ r ≡ read (now (bytes .entry)) ⌝ }
+{
+    if bytes.len() == 0 {
+        return refuse(MALFORMED);
+    }
+    let k = bytes[0] as usize;
+    if 13 <= k {
+        return refuse(MALFORMED);
+    }
+    if bytes.len() != length_of(k) {
+        return refuse(MALFORMED);
+    }
+    let fields = fields_of(bytes, k);
+    if !are_in_ranges(k, &fields) {
+        return refuse(OUT_OF_RANGE);
+    }
+    Reading {
+        code: 0,
+        kind: k as u64,
+        fields,
+    }
+}
+
+// Writes the w lowest bytes of a number at a place, the highest first; the rest of the part stays.
+fn put_number(part: &mut [u8], at: usize, w: usize, x: u64)
+    requires { ⌜ at + w ≤ length (now part) ⌝ }
+    ensures { λ _. ⌜ now (part .exit) ≡ take at (now (part .entry)) ++ bytesOf w x ++ drop (at + w) (now (part .entry)) ⌝ }
+{
+    let mut rest = x;
+    let mut i: usize = 0;
+    while i < w {
+        i += 1;
+        part[at + w - i] = (rest % 256) as u8;
+        rest /= 256;
+    }
+}
+
+// Fills a part of the record's length with the record.
+fn put_record(part: &mut [u8], k: usize, fields: &[u64; 8])
+    requires { ⌜ (k < 13) × (length (now part) ≡ lengthOf k) ⌝ }
+    ensures { λ _. ⌜ now (part .exit) ≡ image k (now (fields .entry)) ⌝ }
+{
+    part[0] = (k % 256) as u8;
+    let mut at: usize = 1;
+    let mut j: usize = 0;
+    while j < 8 {
+        let w = kinds::field_of(k, j).bytes;
+        put_number(part, at, w, fields[j]);
+        at += w;
+        j += 1;
+    }
+}
+
+// Writes a record into a lent part of its length. Code 3 for an unknown kind or another length, 4 for a number out
+// of its range, also for one that is not 0 past the last field; the part then stays as it was.
+#[no_mangle]
+pub extern "C" fn records_write(kind: u64, fields: &[u64; 8], part: &mut [u8]) -> u64
+    ensures { λ r. ⌜ r ≡ writeCode kind (now (fields .entry)) (now (part .entry)) ⌝ }
+    ensures { λ _. ⌜ now (part .exit) ≡ written kind (now (fields .entry)) (now (part .entry)) ⌝ }
+{
+    if 13 <= kind {
+        return MALFORMED;
+    }
+    let k = kind as usize;
+    if part.len() != length_of(k) {
+        return MALFORMED;
+    }
+    if !are_in_ranges(k, fields) {
+        return OUT_OF_RANGE;
+    }
+    put_record(part, k, fields);
+    0
+}

@@ -1,0 +1,42 @@
+#!/bin/sh
+# All tests, in order, from the repository's root or anywhere else: the libraries are proved and
+# written, the header is held to them, the C host is compiled and run, and the second program is
+# compared with them. Ends at the first failure.
+set -eu
+cd "$(dirname "$0")/.."
+
+CC=${CC:-cc}
+work=$(mktemp -d)
+trap 'rm -rf "$work"' EXIT
+
+# Runs a step with its output kept, which is printed only if it fails.
+step() {
+    name=$1
+    shift
+    if "$@" >"$work/log" 2>&1; then
+        echo "ok      $name"
+    else
+        cat "$work/log"
+        echo "FAILED  $name"
+        exit 1
+    fi
+}
+
+for library in calendar valuation baskets picking records; do
+    step "rt staticlib $library" rt staticlib "$library"
+done
+
+step "header against the libraries" sh tests/header-check.sh
+
+step "compile examples/host.c" \
+    "$CC" -std=c11 -Wall -Wextra -Werror -Iinclude examples/host.c target/staticlib/lib*.a -o "$work/host"
+run_host() {
+    "$work/host" >"$work/host.stdout" && diff examples/host.stdout "$work/host.stdout"
+}
+step "run examples/host.c" run_host
+
+for file in tests/tests/*.rs; do
+    library=$(basename "$file" .rs)
+    step "second program: $library" \
+        cargo test --release --offline --locked --quiet --manifest-path tests/Cargo.toml --test "$library"
+done
