@@ -1,8 +1,10 @@
 pub mod Bits
 pub mod Cases
+pub mod Chains
 pub mod Filled
 pub mod Largest
 pub mod Least
 pub mod Numbers
+pub mod Patches
 pub mod Sum
 pub mod Table

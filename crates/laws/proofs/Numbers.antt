@@ -1,9 +1,9 @@
 -- Numbers as bytes: how many, what they read as, and what a number reads and writes as.
 -- Assumes nothing.
-use mathlib.Core.Path.{_≡_, refl}
-use mathlib.Core.List.{List, [], _∷_, _++_}
+use mathlib.Core.Path.{_≡_, refl, sym}
+use mathlib.Core.List.{List, [], _∷_, _++_, append-nil, append-assoc}
 use Prim.Native.Nat.{ℕ, zero, suc, _+_, _*_, _/_, _%_, _^_, _≤_, _<_}
-use native.Mathlib.Nat.{pow-suc, pow-le-pow-right, div-add-mod'}
+use native.Mathlib.Nat.{add-zero, add-suc, add-assoc, mul-assoc, pow-zero, pow-suc, pow-succ', pow-le-pow-right, div-one, div-div-eq-div-mul, div-add-mod'}
 use native.Mathlib.Numerals.{add-one}
 use native.Mathlib.Omega.{arith}
 use lib.Dec.{lit<}
@@ -62,3 +62,24 @@ bytes-number b at (suc w) h l =
     let rest : (n * 256 + d) % 256 ≡ d = omega (arith, h (at + w)) in
     let long : w < length (drop at b) = simp length-drop (omega arith) in
     rw (quotient, rest, bytes-number b at w h (omega arith), take-suc (drop at b) w 0 long, getD-drop at b w 0)
+
+-- a number in two parts, the higher bytes and the lower
+pub number-split : (b : List ℕ) (at w v : ℕ) → numberAt b at (w + v) ≡ numberAt b at w * 256 ^ v + numberAt b (at + w) v
+unfolding numberAt
+number-split b at w zero = rw (add-zero w, pow-zero) (omega arith)
+number-split b at w (suc v) =
+    let high = numberAt b at w in
+    let shift : high * 256 ^ suc v ≡ high * 256 ^ v * 256 = rw pow-suc (sym (mul-assoc high (256 ^ v) 256)) in
+    rw (add-suc w v, shift, number-split b at w v, ← add-assoc at w v) (omega arith)
+
+-- and its bytes
+pub bytes-split : (w v x : ℕ) → bytesOf (w + v) x ≡ bytesOf w (x / 256 ^ v) ++ bytesOf v x
+unfolding bytesOf
+bytes-split w zero x = rw (add-zero w, pow-zero, div-one, append-nil)
+bytes-split w (suc v) x = rw (add-suc w v, bytes-split w v (x / 256), div-div-eq-div-mul, ← pow-succ' 256 v, append-assoc)
+
+-- bytes read as a number that they can hold
+pub number-small : (b : List ℕ) (at w : ℕ) → ((i : ℕ) → getD b i 0 < 256) → numberAt b at w < 256 ^ w
+unfolding numberAt
+number-small b at zero h = rw pow-zero (omega arith)
+number-small b at (suc w) h = omega (arith, pow-suc 256 w, number-small b at w h, h (at + w))

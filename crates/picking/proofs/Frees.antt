@@ -22,11 +22,11 @@ use Rattle.securities.specs.Security.{securityAt}
 use Rattle.securities.proofs.Positions.{value-part, worth-one}
 use Rattle.valuation.specs.Value.{value}
 use Rattle.valuation.proofs.Laws.{value-mono}
-use Rattle.picking.specs.Free.{remaining, enough, lotsToFree, whole, freeFrom, freedAbove}
-use Rattle.picking.specs.Lots.{lotsToSpare, parcelToSpare, parcelBack, firstToFree}
+use Rattle.picking.specs.Free.{remaining, enough, lotsToFree, whole, freeFrom, freedAbove, parcelBack, firstToFree}
+use Rattle.parcels.specs.Lots.{lotsToSpare, parcelToSpare}
 use Rattle.picking.specs.declared.Freed.{Freed}
-use Rattle.picking.specs.declared.Parcel.{Parcel}
-use Rattle.picking.proofs.Parcels.{spared-within}
+use Rattle.parcels.specs.declared.Parcel.{Parcel}
+use Rattle.parcels.proofs.Parcels.{spared-within}
 
 -- on the way, with the n highest securities done
 pub record Freeing (columns position : List ℕ) (n : ℕ) (f : Freed) : Type 0 where

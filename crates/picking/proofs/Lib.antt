@@ -1,4 +1,3 @@
 pub mod Frees
 pub mod Legal
-pub mod Parcels
 pub mod Picks

@@ -11,11 +11,11 @@ use lib.ListN.{getD, set}
 use borrow.Author.Tests.{ne-eqb}
 use Rattle.laws.proofs.Cases.{either}
 use Rattle.securities.specs.Security.{securityAt}
-use Rattle.picking.specs.Lots.{noParcel, parcelToPick}
+use Rattle.parcels.specs.Lots.{noParcel, parcelToPick}
 use Rattle.picking.specs.Pick.{nothing, butNot, withParcel, parcelFrom, pickedBelow, picked}
 use Rattle.picking.specs.declared.Outcome.{Outcome}
-use Rattle.picking.specs.declared.Parcel.{Parcel}
-use Rattle.picking.proofs.Parcels.{picked-worth, pick-empty}
+use Rattle.parcels.specs.declared.Parcel.{Parcel}
+use Rattle.parcels.proofs.Parcels.{picked-worth, pick-empty}
 
 module _ (columns account : List ℕ) (eligible : ℕ → Bool) where
   -- a security in the map of the eligible, and one that is not

@@ -1,4 +1,3 @@
 pub mod Answers
 pub mod Free
-pub mod Lots
 pub mod Pick

@@ -6,9 +6,9 @@ use Prim.Native.Nat.{ℕ, zero, suc, _+_, _-_, min}
 use lib.Dec.{eqb}
 use lib.ListN.{getD, set, replicate}
 use Rattle.securities.specs.Security.{securityAt}
-use Rattle.picking.specs.Lots.{noParcel, parcelToPick}
+use Rattle.parcels.specs.Lots.{noParcel, parcelToPick}
 use Rattle.picking.specs.declared.Outcome.{Outcome}
-use Rattle.picking.specs.declared.Parcel.{Parcel}
+use Rattle.parcels.specs.declared.Parcel.{Parcel}
 
 -- nothing picked
 abbrev pub nothing : Outcome

@@ -1,27 +1,19 @@
 // Pick: collateral for an amount out of an account. Free: collateral that a position no longer needs.
 // Both work on the numbers of one account or position and of the securities, without the book.
 ghost use mathlib.Core.Path.{_≡_};
-ghost use Prim.Native.Nat.{_<_, _≤_, _-_, _*_, _/_, min};
+ghost use Prim.Native.Nat.{_<_, _≤_};
 ghost use lib.ListN.{getD};
 ghost use Rattle.baskets.specs.Basket.{eligible};
-ghost use Rattle.securities.specs.Position.{worth, nominalsOf, Within};
-ghost use Rattle.securities.specs.Security.{securityAt, InBounds, AllInBounds, AllQuoted};
-ghost use Rattle.valuation.specs.Value.{value, Bounded};
+ghost use Rattle.securities.specs.Position.{nominalsOf, Within};
+ghost use Rattle.securities.specs.Security.{securityAt, AllInBounds, AllQuoted};
+ghost use Rattle.valuation.specs.Value.{value};
 ghost use Rattle.picking.specs.Answers.{pickedFor, freedDown, legalPick, legalDays, legalFree, pickRefused, freeRefused};
-ghost use Rattle.picking.specs.Free.{freed};
-ghost use Rattle.picking.specs.Lots.{parcelToPick, parcelToSpare, nominalToKeep, parcelBack, firstToFree};
+ghost use Rattle.picking.specs.Free.{freed, parcelBack, firstToFree};
 ghost use Rattle.picking.specs.Pick.{butNot, parcelFrom, picked};
 use answers::BAD_DAY;
 use answers::OUT_OF_RANGE;
 use baskets::Basket;
-use securities::Security;
-use valuation::Pricing;
-
-// A nominal of one security and a value in cents.
-pub struct Parcel {
-    pub nominal: u64,
-    pub value: u64,
-}
+use parcels::Parcel;
 
 // A pick's outcome: the nominal picked of each security, the value found in cents, and how many securities.
 #[repr(C)]
@@ -52,63 +44,6 @@ pub struct FreeAnswer {
     pub freed: Freed,
 }
 
-fn smaller(a: u64, b: u64) -> u64
-    ensures { λ r. ⌜ r ≡ min a b ⌝ }
-{
-    if a <= b { a } else { b }
-}
-
-// The whole lots of a nominal; the division is of 32 bits, which is quicker.
-fn whole_lots(nominal: u64, lot: u64) -> u64
-    requires { ⌜ (nominal ≤ 500000000) × (0 < lot) × (lot ≤ 1000000) ⌝ }
-    ensures { λ r. ⌜ (r ≡ nominal / lot * lot) × (r ≤ nominal) ⌝ }
-{
-    let n = nominal as u32;
-    let l = lot as u32;
-    (n / l * l) as u64
-}
-
-// As many whole lots of the account as are worth no more than what remains.
-fn parcel_to_pick(s: Security, account: u64, remains: u64) -> Parcel
-    requires { ⌜ (account ≤ 500000000) × InBounds s ⌝ }
-    ensures { λ r. ⌜ r ≡ parcelToPick s account remains ⌝ }
-{
-    let lot = s.lot;
-    let pricing = s.pricing;
-    if lot == 0 {
-        return Parcel {
-            nominal: 0,
-            value: 0,
-        };
-    }
-    if account < lot {
-        return Parcel {
-            nominal: 0,
-            value: 0,
-        };
-    }
-    if remains < valuation::value_of(lot, pricing) {
-        return Parcel {
-            nominal: 0,
-            value: 0,
-        };
-    }
-    let all = whole_lots(account, lot);
-    let worth = valuation::value_of(all, pricing);
-    if worth <= remains {
-        return Parcel {
-            nominal: all,
-            value: worth,
-        };
-    }
-    let most = smaller(account, valuation::nominal_within(remains, pricing));
-    let nominal = whole_lots(most, lot);
-    Parcel {
-        nominal,
-        value: valuation::value_of(nominal, pricing),
-    }
-}
-
 // Is the security i eligible for a basket, and not the one left out?
 fn is_allowed(basket: Basket, today: u64, omitted: u64, columns: &[u64; 256], i: usize) -> bool
     requires { ⌜ (i < 64) × (basket .oldest ≤ 255) × (today ≤ 146096) × AllInBounds (now columns) × AllQuoted (now columns) ⌝ }
@@ -133,7 +68,7 @@ fn parcel_from(
     requires { ⌜ (i < 64) × (basket .oldest ≤ 255) × (today ≤ 146096) × AllInBounds (now columns) × AllQuoted (now columns) × Within (nominalsOf (now account)) ⌝ }
     ensures { λ r. ⌜ r ≡ parcelFrom (now (columns .entry)) (now (account .entry)) (butNot omitted (eligible basket today (now (columns .entry)))) i remains ⌝ }
 {
-    let p = parcel_to_pick(securities::security_at(columns, i), account[i], remains);
+    let p = parcels::parcel_to_pick(securities::security_at(columns, i), account[i], remains);
     if p.nominal == 0 {
         return p;
     }
@@ -167,7 +102,7 @@ pub fn pick(
         let p = parcel_from(account, columns, basket, today, omitted, i, amount - value);
         nominals[i] = p.nominal;
         value += p.value;
-        count += smaller(p.nominal, 1);
+        count += parcels::smaller(p.nominal, 1);
         i += 1;
     }
     Outcome {
@@ -191,58 +126,6 @@ pub fn pick_for(
     pick(account, columns, basket, today, 64, amount)
 }
 
-// The least nominal that, with the others, is worth the exposure.
-fn nominal_to_keep(others: u64, exposure: u64, pricing: Pricing) -> u64
-    requires { ⌜ (1 ≤ pricing .price) × Bounded pricing ⌝ }
-    ensures { λ r. ⌜ r ≡ nominalToKeep others exposure pricing ⌝ }
-{
-    if exposure <= others {
-        return 0;
-    }
-    valuation::nominal_within(exposure - others - 1, pricing) + 1
-}
-
-// As many lots as can go while a position stays worth the exposure, with what it loses in value.
-fn parcel_to_free(s: Security, nominal: u64, worth: u64, exposure: u64) -> Parcel
-    requires { ⌜ (nominal ≤ 500000000) × (value (s .pricing) nominal ≤ worth) × InBounds s ⌝ }
-    ensures { λ r. ⌜ r ≡ parcelToSpare s nominal (worth - value (s .pricing) nominal) exposure ⌝ }
-{
-    let lot = s.lot;
-    let pricing = s.pricing;
-    if lot == 0 {
-        return Parcel {
-            nominal: 0,
-            value: 0,
-        };
-    }
-    if nominal < lot {
-        return Parcel {
-            nominal: 0,
-            value: 0,
-        };
-    }
-    let held = valuation::value_of(nominal, pricing);
-    let keep = nominal_to_keep(worth - held, exposure, pricing);
-    if nominal < keep {
-        return Parcel {
-            nominal: 0,
-            value: 0,
-        };
-    }
-    let given = whole_lots(nominal - keep, lot);
-    if given == 0 {
-        return Parcel {
-            nominal: 0,
-            value: 0,
-        };
-    }
-    let left = valuation::value_of(nominal - given, pricing);
-    Parcel {
-        nominal: given,
-        value: held - left,
-    }
-}
-
 // What the free gives back of security i.
 fn parcel_back(
     position: &[u64; 64],
@@ -254,7 +137,7 @@ fn parcel_back(
     requires { ⌜ (i < 64) × AllInBounds (now columns) × Within (nominalsOf (now position)) × (value (securityAt (now columns) i .pricing) (getD (now position) i 0) ≤ worth) ⌝ }
     ensures { λ r. ⌜ r ≡ parcelBack (now (columns .entry)) (now (position .entry)) i worth exposure ⌝ }
 {
-    parcel_to_free(
+    parcels::parcel_to_free(
         securities::security_at(columns, i),
         position[i],
         worth,
@@ -283,7 +166,7 @@ pub fn free(position: &[u64; 64], columns: &[u64; 256], exposure: u64) -> Freed
         let p = parcel_back(position, columns, i, left, exposure);
         nominals[i] = p.nominal;
         left -= p.value;
-        count += smaller(p.nominal, 1);
+        count += parcels::smaller(p.nominal, 1);
     }
     Freed {
         nominals,

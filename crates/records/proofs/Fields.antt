@@ -1,29 +1,35 @@
--- The table of kinds: widths and ranges fit at every place, and the fields lie one after the other.
+-- The table of kinds: the code's names for its fields, widths and ranges that fit at every place, and fields that lie one after the other.
 -- Assumes nothing.
-use mathlib.Core.Path.{_≡_, refl, sym}
+use mathlib.Core.Path.{_≡_, refl, sym, ap, _∙_}
 use mathlib.Core.Bool.{Bool}
-use mathlib.Core.List.{List, [], _∷_, map}
-use Prim.Native.Nat.{ℕ, zero, suc, _+_, _*_, _^_, _≤_, _<_}
+use mathlib.Core.List.{List, map}
+use Prim.Native.Nat.{ℕ, _+_, _*_, _^_, _≤_, _<_}
 use native.Mathlib.Omega.{arith}
 use lib.Dec.{leb, ltb, leb→le, ltb→lt}
-use lib.ListN.{getD}
+use lib.ListN.{getD, drop, List·getD-map}
+use lib.Seq.{getD-take, getD-drop}
 use mir.Val.{Fits}
 use mir.Syntax.{w64}
 use Rattle.laws.proofs.Table.{each-at}
 use Rattle.laws.proofs.Sum.{sum-next, sum-le, sum-mono}
 use Rattle.laws.specs.Sum.{sum}
-use Rattle.records.specs.Kinds.{kinds, fieldOf, widthOf, offsetOf, lengthOf}
+use Rattle.records.specs.Kinds.{kinds, fieldOf, widthOf, offsetOf, lengthOf, typed, row}
 use Rattle.records.specs.declared.kinds.Field.{Field}
+use Rattle.records.specs.declared.kinds.FieldType.{FieldType}
+use Rattle.records.specs.declared.kinds.FieldType.the-variants.{Empty}
 
 -- what stands for no field
 abbrev empty : Field
 empty = record { bytes = 0; least = 0; greatest = 0 }
 
--- a field put together of what three lists have at its place
-pub field-parts : (fs : List Field) (i : ℕ) → _≡_ {A = Field} (record { bytes = getD (map (λ f. f .bytes) fs) i 0; least = getD (map (λ f. f .least) fs) i 0; greatest = getD (map (λ f. f .greatest) fs) i 0 }) (getD fs i empty)
-field-parts [] i = refl
-field-parts (f ∷ fs) zero = refl
-field-parts (f ∷ fs) (suc i) = field-parts fs i
+-- the type at a place of a kind's row is its field's
+pub type-at : (k j : ℕ) (types : List FieldType) {f : Field} → map typed types ≡ row k → j < 8 → f ≡ typed (getD types j Empty) → f ≡ fieldOf k j
+type-at k j types e l g =
+    g
+    ∙ sym (List·getD-map typed types j Empty)
+    ∙ ap (λ (fs : List Field). getD fs j empty) e
+    ∙ getD-take 8 (drop (8 * k) kinds) j empty l
+    ∙ getD-drop (8 * k) kinds j empty
 
 -- a field has at most eight bytes
 narrow : Field → Bool
@@ -73,3 +79,14 @@ module _ (k j : ℕ) {at : ℕ} {f : Field} (here : at ≡ offsetOf k j) (it : f
 
 pub field-narrow : (k j : ℕ) {f : Field} → f ≡ fieldOf k j → f .bytes ≤ 8
 field-narrow k j it = rw it (width-le k j)
+
+-- a number that is at least n and not n
+step : {k : ℕ} (n : ℕ) → n ≤ k → (k ≡ n → ⊥) → n + 1 ≤ k
+step n l h = omega arith
+
+-- a kind that is none of the first twelve
+pub last-kind : {k : ℕ} → k < 13 → (k ≡ 0 → ⊥) → (k ≡ 1 → ⊥) → (k ≡ 2 → ⊥) → (k ≡ 3 → ⊥) → (k ≡ 4 → ⊥) → (k ≡ 5 → ⊥) → (k ≡ 6 → ⊥) → (k ≡ 7 → ⊥) → (k ≡ 8 → ⊥) → (k ≡ 9 → ⊥) → (k ≡ 10 → ⊥) → (k ≡ 11 → ⊥) → k ≡ 12
+last-kind {k} l n0 n1 n2 n3 n4 n5 n6 n7 n8 n9 n10 n11 =
+    let six : 6 ≤ k = step 5 (step 4 (step 3 (step 2 (step 1 (step 0 (omega arith) n0) n1) n2) n3) n4) n5 in
+    let twelve : 12 ≤ k = step 11 (step 10 (step 9 (step 8 (step 7 (step 6 six n6) n7) n8) n9) n10) n11 in
+    omega (arith, l, twelve)

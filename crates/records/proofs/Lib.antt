@@ -1,5 +1,6 @@
 pub mod Fields
 pub mod Images
+pub mod Joins
 pub mod Places
 pub mod Puts
 pub mod Ranges

@@ -4,10 +4,12 @@ use mathlib.Core.Bool.{Bool, _&&_}
 use mathlib.Core.List.{List, [], _∷_}
 use Prim.Native.Nat.{ℕ, _+_, _*_}
 use lib.Dec.{leb, ltb}
-use lib.ListN.{getD}
+use lib.ListN.{getD, take, drop}
 use Rattle.laws.specs.Search.{all}
 use Rattle.laws.specs.Sum.{sum}
 use Rattle.records.specs.declared.kinds.Field.{Field}
+use Rattle.records.specs.declared.kinds.FieldType.{FieldType}
+use Rattle.records.specs.declared.kinds.FieldType.the-variants.{Empty, Any8, Any32, Any64, Participant, Security, Basket, Exposure, Side, Day, Nominal, Amount, Tolerance, Lot, Price, Haircut, Mode, Partial, Map, RecallNominal}
 
 -- a field: its bytes, the least and the greatest number that it may hold
 abbrev field : ℕ → ℕ → ℕ → Field
@@ -145,3 +147,30 @@ inRange k j x = leb (fieldOf k j .least) x && leb x (fieldOf k j .greatest)
 -- each of the eight numbers is in the range of its field
 abbrev pub inRanges : ℕ → (ℕ → ℕ) → Bool
 inRanges k number = all (λ j. inRange k j (number j)) 8 0
+
+-- the code's names for the fields
+abbrev pub typed : FieldType → Field
+typed Empty = empty
+typed Any8 = any8
+typed Any32 = any32
+typed Any64 = any64
+typed Participant = participant
+typed Security = security
+typed Basket = basket
+typed Exposure = exposure
+typed Side = side
+typed Day = day
+typed Nominal = nominal
+typed Amount = amount
+typed Tolerance = tolerance
+typed Lot = lot
+typed Price = price
+typed Haircut = haircut
+typed Mode = mode
+typed Partial = partial
+typed Map = map
+typed RecallNominal = recallNominal
+
+-- the eight places of a kind
+abbrev pub row : ℕ → List Field
+row k = take 8 (drop (8 * k) kinds)

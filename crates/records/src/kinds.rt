@@ -1,8 +1,10 @@
 // Document 01's table of records. Each kind has eight places; those past its last field are empty.
-// specs/Kinds.antt has the same table for the reader of the promises; the proof of field_of compares the two.
+// specs/Kinds.antt has the same table for the reader of the promises; the proofs of field_type and types_of compare the two.
+// Each is a match: the compiler keeps it as a table of numbers, while it would build a constant array anew at each use.
 ghost use mathlib.Core.Path.{_≡_};
+ghost use mathlib.Core.List.{map};
 ghost use Prim.Native.Nat.{_<_};
-ghost use Rattle.records.specs.Kinds.{fieldOf};
+ghost use Rattle.records.specs.Kinds.{fieldOf, typed, row};
 
 // A field: its bytes, the least and the greatest number that it may hold.
 pub struct Field {
@@ -11,376 +13,269 @@ pub struct Field {
     pub greatest: u64,
 }
 
-// A list for each part of a field: one of 104 structs takes half a minute to check.
-const BYTES: [usize; 104] = [
-    // 0 opening: day, tolerance
-    4,
-    4,
-    0,
-    0,
-    0,
-    0,
-    0,
-    0,
-    // 1 price: security, lot, price, haircut, quote day
-    1,
-    4,
-    4,
-    2,
-    4,
-    0,
-    0,
-    0,
-    // 2 participant: number, mode, list, partial
-    1,
-    1,
-    4,
-    1,
-    0,
-    0,
-    0,
-    0,
-    // 3 basket: number, map, greatest age
-    1,
-    8,
-    1,
-    0,
-    0,
-    0,
-    0,
-    0,
-    // 4 deposit: participant, security, nominal
-    1,
-    1,
-    4,
-    0,
-    0,
-    0,
-    0,
-    0,
-    // 5 withdrawal: participant, security, nominal
-    1,
-    1,
-    4,
-    0,
-    0,
-    0,
-    0,
-    0,
-    // 6 FOP: side, giver, taker, basket, amount, settlement, closing, reference
-    1,
-    1,
-    1,
-    1,
-    8,
-    4,
-    4,
-    8,
-    // 7 return: side, giver, taker, exposure, amount, settlement, reference
-    1,
-    1,
-    1,
-    1,
-    8,
-    4,
-    8,
-    0,
-    // 8 cancel: participant, request number
-    1,
-    4,
-    0,
-    0,
-    0,
-    0,
-    0,
-    0,
-    // 9 settle
-    0,
-    0,
-    0,
-    0,
-    0,
-    0,
-    0,
-    0,
-    // 10 mark
-    0,
-    0,
-    0,
-    0,
-    0,
-    0,
-    0,
-    0,
-    // 11 recall: giver, exposure, security, nominal
-    1,
-    1,
-    1,
-    4,
-    0,
-    0,
-    0,
-    0,
-    // 12 next day
-    0,
-    0,
-    0,
-    0,
-    0,
-    0,
-    0,
-    0,
-];
+// What a field holds.
+enum FieldType {
+    Empty,
+    Any8,
+    Any32,
+    Any64,
+    Participant,
+    Security,
+    Basket,
+    Exposure,
+    Side,
+    Day,
+    Nominal,
+    Amount,
+    Tolerance,
+    Lot,
+    Price,
+    Haircut,
+    Mode,
+    Partial,
+    Map,
+    RecallNominal,
+}
 
-const LEAST: [u64; 104] = [
-    // 0 opening: day, tolerance
-    0,
-    1,
-    0,
-    0,
-    0,
-    0,
-    0,
-    0,
-    // 1 price: security, lot, price, haircut, quote day
-    0,
-    1,
-    1,
-    0,
-    0,
-    0,
-    0,
-    0,
-    // 2 participant: number, mode, list, partial
-    0,
-    0,
-    0,
-    0,
-    0,
-    0,
-    0,
-    0,
-    // 3 basket: number, map, greatest age
-    0,
-    1,
-    0,
-    0,
-    0,
-    0,
-    0,
-    0,
-    // 4 deposit: participant, security, nominal
-    0,
-    0,
-    1,
-    0,
-    0,
-    0,
-    0,
-    0,
-    // 5 withdrawal: participant, security, nominal
-    0,
-    0,
-    1,
-    0,
-    0,
-    0,
-    0,
-    0,
-    // 6 FOP: side, giver, taker, basket, amount, settlement, closing, reference
-    0,
-    0,
-    0,
-    0,
-    1,
-    0,
-    0,
-    0,
-    // 7 return: side, giver, taker, exposure, amount, settlement, reference
-    0,
-    0,
-    0,
-    0,
-    1,
-    0,
-    0,
-    0,
-    // 8 cancel: participant, request number
-    0,
-    0,
-    0,
-    0,
-    0,
-    0,
-    0,
-    0,
-    // 9 settle
-    0,
-    0,
-    0,
-    0,
-    0,
-    0,
-    0,
-    0,
-    // 10 mark
-    0,
-    0,
-    0,
-    0,
-    0,
-    0,
-    0,
-    0,
-    // 11 recall: giver, exposure, security, nominal
-    0,
-    0,
-    0,
-    1,
-    0,
-    0,
-    0,
-    0,
-    // 12 next day
-    0,
-    0,
-    0,
-    0,
-    0,
-    0,
-    0,
-    0,
-];
+// The field of a type.
+fn field_type(t: FieldType) -> Field
+    ensures { λ r. ⌜ r ≡ typed t ⌝ }
+{
+    match t {
+        FieldType::Empty => Field {
+            bytes: 0,
+            least: 0,
+            greatest: 0,
+        },
+        FieldType::Any8 => Field {
+            bytes: 1,
+            least: 0,
+            greatest: 255,
+        },
+        FieldType::Any32 => Field {
+            bytes: 4,
+            least: 0,
+            greatest: 4294967295,
+        },
+        FieldType::Any64 => Field {
+            bytes: 8,
+            least: 0,
+            greatest: 18446744073709551615,
+        },
+        FieldType::Participant => Field {
+            bytes: 1,
+            least: 0,
+            greatest: 31,
+        },
+        FieldType::Security => Field {
+            bytes: 1,
+            least: 0,
+            greatest: 63,
+        },
+        FieldType::Basket => Field {
+            bytes: 1,
+            least: 0,
+            greatest: 15,
+        },
+        FieldType::Exposure => Field {
+            bytes: 1,
+            least: 0,
+            greatest: 63,
+        },
+        FieldType::Side => Field {
+            bytes: 1,
+            least: 0,
+            greatest: 1,
+        },
+        FieldType::Day => Field {
+            bytes: 4,
+            least: 0,
+            greatest: 4294967295,
+        },
+        FieldType::Nominal => Field {
+            bytes: 4,
+            least: 1,
+            greatest: 500000000,
+        },
+        FieldType::Amount => Field {
+            bytes: 8,
+            least: 1,
+            greatest: 1000000000000,
+        },
+        FieldType::Tolerance => Field {
+            bytes: 4,
+            least: 1,
+            greatest: 100000000,
+        },
+        FieldType::Lot => Field {
+            bytes: 4,
+            least: 1,
+            greatest: 1000000,
+        },
+        FieldType::Price => Field {
+            bytes: 4,
+            least: 1,
+            greatest: 3000000,
+        },
+        FieldType::Haircut => Field {
+            bytes: 2,
+            least: 0,
+            greatest: 9999,
+        },
+        FieldType::Mode => Field {
+            bytes: 1,
+            least: 0,
+            greatest: 2,
+        },
+        FieldType::Partial => Field {
+            bytes: 1,
+            least: 0,
+            greatest: 1,
+        },
+        FieldType::Map => Field {
+            bytes: 8,
+            least: 1,
+            greatest: 18446744073709551615,
+        },
+        FieldType::RecallNominal => Field {
+            bytes: 4,
+            least: 1,
+            greatest: 4294967295,
+        },
+    }
+}
 
-const GREATEST: [u64; 104] = [
-    // 0 opening: day, tolerance
-    4294967295,
-    100000000,
-    0,
-    0,
-    0,
-    0,
-    0,
-    0,
-    // 1 price: security, lot, price, haircut, quote day
-    63,
-    1000000,
-    3000000,
-    9999,
-    4294967295,
-    0,
-    0,
-    0,
-    // 2 participant: number, mode, list, partial
-    31,
-    2,
-    4294967295,
-    1,
-    0,
-    0,
-    0,
-    0,
-    // 3 basket: number, map, greatest age
-    15,
-    18446744073709551615,
-    255,
-    0,
-    0,
-    0,
-    0,
-    0,
-    // 4 deposit: participant, security, nominal
-    31,
-    63,
-    500000000,
-    0,
-    0,
-    0,
-    0,
-    0,
-    // 5 withdrawal: participant, security, nominal
-    31,
-    63,
-    500000000,
-    0,
-    0,
-    0,
-    0,
-    0,
-    // 6 FOP: side, giver, taker, basket, amount, settlement, closing, reference
-    1,
-    31,
-    31,
-    15,
-    1000000000000,
-    4294967295,
-    4294967295,
-    18446744073709551615,
-    // 7 return: side, giver, taker, exposure, amount, settlement, reference
-    1,
-    31,
-    31,
-    63,
-    1000000000000,
-    4294967295,
-    18446744073709551615,
-    0,
-    // 8 cancel: participant, request number
-    31,
-    4294967295,
-    0,
-    0,
-    0,
-    0,
-    0,
-    0,
-    // 9 settle
-    0,
-    0,
-    0,
-    0,
-    0,
-    0,
-    0,
-    0,
-    // 10 mark
-    0,
-    0,
-    0,
-    0,
-    0,
-    0,
-    0,
-    0,
-    // 11 recall: giver, exposure, security, nominal
-    31,
-    63,
-    63,
-    4294967295,
-    0,
-    0,
-    0,
-    0,
-    // 12 next day
-    0,
-    0,
-    0,
-    0,
-    0,
-    0,
-    0,
-    0,
-];
+// The types of the eight places of a kind.
+fn types_of(k: usize) -> [FieldType; 8]
+    requires { ⌜ k < 13 ⌝ }
+    ensures { λ r. ⌜ map typed r ≡ row k ⌝ }
+{
+    match k {
+        // opening: day, tolerance
+        0 => [
+            FieldType::Day,
+            FieldType::Tolerance,
+            FieldType::Empty,
+            FieldType::Empty,
+            FieldType::Empty,
+            FieldType::Empty,
+            FieldType::Empty,
+            FieldType::Empty,
+        ],
+        // price: security, lot, price, haircut, quote day
+        1 => [
+            FieldType::Security,
+            FieldType::Lot,
+            FieldType::Price,
+            FieldType::Haircut,
+            FieldType::Day,
+            FieldType::Empty,
+            FieldType::Empty,
+            FieldType::Empty,
+        ],
+        // participant: number, mode, list, partial
+        2 => [
+            FieldType::Participant,
+            FieldType::Mode,
+            FieldType::Any32,
+            FieldType::Partial,
+            FieldType::Empty,
+            FieldType::Empty,
+            FieldType::Empty,
+            FieldType::Empty,
+        ],
+        // basket: number, map, greatest age
+        3 => [
+            FieldType::Basket,
+            FieldType::Map,
+            FieldType::Any8,
+            FieldType::Empty,
+            FieldType::Empty,
+            FieldType::Empty,
+            FieldType::Empty,
+            FieldType::Empty,
+        ],
+        // deposit: participant, security, nominal
+        4 => [
+            FieldType::Participant,
+            FieldType::Security,
+            FieldType::Nominal,
+            FieldType::Empty,
+            FieldType::Empty,
+            FieldType::Empty,
+            FieldType::Empty,
+            FieldType::Empty,
+        ],
+        // withdrawal: participant, security, nominal
+        5 => [
+            FieldType::Participant,
+            FieldType::Security,
+            FieldType::Nominal,
+            FieldType::Empty,
+            FieldType::Empty,
+            FieldType::Empty,
+            FieldType::Empty,
+            FieldType::Empty,
+        ],
+        // FOP: side, giver, taker, basket, amount, settlement, closing, reference
+        6 => [
+            FieldType::Side,
+            FieldType::Participant,
+            FieldType::Participant,
+            FieldType::Basket,
+            FieldType::Amount,
+            FieldType::Day,
+            FieldType::Day,
+            FieldType::Any64,
+        ],
+        // return: side, giver, taker, exposure, amount, settlement, reference
+        7 => [
+            FieldType::Side,
+            FieldType::Participant,
+            FieldType::Participant,
+            FieldType::Exposure,
+            FieldType::Amount,
+            FieldType::Day,
+            FieldType::Any64,
+            FieldType::Empty,
+        ],
+        // cancel: participant, request number
+        8 => [
+            FieldType::Participant,
+            FieldType::Any32,
+            FieldType::Empty,
+            FieldType::Empty,
+            FieldType::Empty,
+            FieldType::Empty,
+            FieldType::Empty,
+            FieldType::Empty,
+        ],
+        // settle
+        9 => [FieldType::Empty; 8],
+        // mark
+        10 => [FieldType::Empty; 8],
+        // recall: giver, exposure, security, nominal
+        11 => [
+            FieldType::Participant,
+            FieldType::Exposure,
+            FieldType::Security,
+            FieldType::RecallNominal,
+            FieldType::Empty,
+            FieldType::Empty,
+            FieldType::Empty,
+            FieldType::Empty,
+        ],
+        // next day
+        _ => [FieldType::Empty; 8],
+    }
+}
 
 // The field j of the kind k.
 pub fn field_of(k: usize, j: usize) -> Field
     requires { ⌜ (k < 13) × (j < 8) ⌝ }
     ensures { λ r. ⌜ r ≡ fieldOf k j ⌝ }
 {
-    let i = 8 * k + j;
-    Field {
-        bytes: BYTES[i],
-        least: LEAST[i],
-        greatest: GREATEST[i],
-    }
+    let types = types_of(k);
+    let t = types[j];
+    field_type(t)
 }

@@ -22,18 +22,26 @@ pub struct Reading {
     pub fields: [u64; 8],
 }
 
-// The bytes of a record of a kind, its kind's byte included.
+// The bytes of a record of a kind, its kind's byte included: each length is proved to be that of the kind's fields.
 fn length_of(k: usize) -> usize
     requires { ⌜ k < 13 ⌝ }
     ensures { λ r. ⌜ r ≡ lengthOf k ⌝ }
 {
-    let mut n: usize = 1;
-    let mut j: usize = 0;
-    while j < 8 {
-        n += kinds::field_of(k, j).bytes;
-        j += 1;
+    match k {
+        0 => 9,
+        1 => 16,
+        2 => 8,
+        3 => 11,
+        4 => 7,
+        5 => 7,
+        6 => 29,
+        7 => 25,
+        8 => 6,
+        9 => 1,
+        10 => 1,
+        11 => 8,
+        _ => 1,
     }
-    n
 }
 
 // Is a number in the range of the field j of the kind k?
@@ -69,8 +77,32 @@ fn wide(x: u8) -> u64
     x as u64
 }
 
-// The number in the w bytes from a place on, the highest first.
-fn number_at(bytes: &[u8], at: usize, w: usize) -> u64
+// The number in the two bytes from a place on, the highest first; the same of four and of eight.
+fn two_at(bytes: &[u8], at: usize) -> u64
+    requires { ⌜ at + 2 ≤ length (now bytes) ⌝ }
+    ensures { λ r. ⌜ (r ≡ numberAt (now (bytes .entry)) at 2) × (r < 65536) ⌝ }
+{
+    let high = wide(bytes[at]);
+    let low = wide(bytes[at + 1]);
+    high * 256 + low
+}
+
+fn four_at(bytes: &[u8], at: usize) -> u64
+    requires { ⌜ at + 4 ≤ length (now bytes) ⌝ }
+    ensures { λ r. ⌜ (r ≡ numberAt (now (bytes .entry)) at 4) × (r < 4294967296) ⌝ }
+{
+    two_at(bytes, at) * 65536 + two_at(bytes, at + 2)
+}
+
+fn eight_at(bytes: &[u8], at: usize) -> u64
+    requires { ⌜ at + 8 ≤ length (now bytes) ⌝ }
+    ensures { λ r. ⌜ r ≡ numberAt (now (bytes .entry)) at 8 ⌝ }
+{
+    four_at(bytes, at) * 4294967296 + four_at(bytes, at + 4)
+}
+
+// The number in the w bytes from a place on, byte after byte.
+fn number_by_bytes(bytes: &[u8], at: usize, w: usize) -> u64
     requires { ⌜ (at + w ≤ length (now bytes)) × (w ≤ 8) ⌝ }
     ensures { λ r. ⌜ r ≡ numberAt (now (bytes .entry)) at w ⌝ }
 {
@@ -81,6 +113,21 @@ fn number_at(bytes: &[u8], at: usize, w: usize) -> u64
         i += 1;
     }
     n
+}
+
+// The number in the w bytes from a place on, the highest first; a field has 0, 1, 2, 4 or 8.
+fn number_at(bytes: &[u8], at: usize, w: usize) -> u64
+    requires { ⌜ (at + w ≤ length (now bytes)) × (w ≤ 8) ⌝ }
+    ensures { λ r. ⌜ r ≡ numberAt (now (bytes .entry)) at w ⌝ }
+{
+    match w {
+        0 => 0,
+        1 => wide(bytes[at]),
+        2 => two_at(bytes, at),
+        4 => four_at(bytes, at),
+        8 => eight_at(bytes, at),
+        _ => number_by_bytes(bytes, at, w),
+    }
 }
 
 // The numbers of the eight places of a record of kind k.

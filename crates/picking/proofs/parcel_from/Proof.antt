@@ -1,7 +1,7 @@
 -- `picking::parcel_from` meets its contract.
 -- Assumes nothing.
 use Rattle.baskets.specs.Basket.{eligible}
-use Rattle.picking.specs.Lots.{parcelToPick}
+use Rattle.parcels.specs.Lots.{parcelToPick}
 use Rattle.picking.specs.Pick.{butNot}
 use Rattle.securities.specs.Security.{securityAt}
 use lib.ListN.{getD}

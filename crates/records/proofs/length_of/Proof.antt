@@ -1,51 +1,79 @@
--- `records::length_of` meets its contract: after j fields n is where the field j begins.
+-- `records::length_of` meets its contract: each length is computed from the kind's fields.
 -- Assumes nothing.
-use mathlib.Core.Path.{_≡_}
-use Prim.Native.Nat.{_-_, _≤_}
+use mathlib.Core.Path.{_≡_, refl}
 use native.Mathlib.Omega.{arith}
-use borrow.Author.Needs.{needs}
-use Rattle.records.specs.Kinds.{offsetOf}
-use Rattle.records.proofs.Fields.{start-first, place-next, place-fits}
+use Rattle.laws.specs.Sum.{sum}
+use Rattle.records.specs.Kinds.{kinds, offsetOf}
+use Rattle.records.proofs.Fields.{last-kind}
 use Rattle.records.proofs.length_of.Statement.{statement}
 use Rattle.records.proofs.length_of.Tie as tie
 
-abbrev Inv-loop : tie.InvT-loop
-Inv-loop k n₀ j₀ n j = (j ≤ 8) × (n ≡ offsetOf k j)
+returns : tie.Need-returns
+unfolding kinds offsetOf sum
+returns c = let e : c .before .args .k ≡ 0 = omega arith in rw e refl
 
-abbrev μ-loop : tie.MeasureT-loop
-μ-loop k n₀ j₀ n j = 8 - j
+returns-2 : tie.Need-returns-2
+unfolding kinds offsetOf sum
+returns-2 c = let e : c .before .args .k ≡ 1 = omega arith in rw e refl
 
-loop-holds : tie.Need-loop-holds Inv-loop μ-loop
-loop-holds c = (omega arith, search start-first)
+returns-3 : tie.Need-returns-3
+unfolding kinds offsetOf sum
+returns-3 c = let e : c .before .args .k ≡ 2 = omega arith in rw e refl
 
-field-of-requires : tie.Need-field-of-requires Inv-loop μ-loop
-field-of-requires c κs = search needs
+returns-4 : tie.Need-returns-4
+unfolding kinds offsetOf sum
+returns-4 c = let e : c .before .args .k ≡ 3 = omega arith in rw e refl
 
-add-n : tie.Need-add-n Inv-loop μ-loop
-add-n c = search place-fits
+returns-5 : tie.Need-returns-5
+unfolding kinds offsetOf sum
+returns-5 c = let e : c .before .args .k ≡ 4 = omega arith in rw e refl
 
-add-j : tie.Need-add-j Inv-loop μ-loop
-add-j c = search needs
+returns-6 : tie.Need-returns-6
+unfolding kinds offsetOf sum
+returns-6 c = let e : c .before .args .k ≡ 5 = omega arith in rw e refl
 
-loop-less : tie.Need-loop-less Inv-loop μ-loop
-loop-less c = search needs
+returns-7 : tie.Need-returns-7
+unfolding kinds offsetOf sum
+returns-7 c = let e : c .before .args .k ≡ 6 = omega arith in rw e refl
 
-loop-again : tie.Need-loop-again Inv-loop μ-loop
-loop-again c = (omega arith, search place-next)
+returns-8 : tie.Need-returns-8
+unfolding kinds offsetOf sum
+returns-8 c = let e : c .before .args .k ≡ 7 = omega arith in rw e refl
 
-returns : tie.Need-returns Inv-loop μ-loop
-returns c = let e : c .before .loop .j ≡ 8 = omega arith in rw e at (c .before .loop .inv .1)
+returns-9 : tie.Need-returns-9
+unfolding kinds offsetOf sum
+returns-9 c = let e : c .before .args .k ≡ 8 = omega arith in rw e refl
+
+returns-10 : tie.Need-returns-10
+unfolding kinds offsetOf sum
+returns-10 c = let e : c .before .args .k ≡ 9 = omega arith in rw e refl
+
+returns-11 : tie.Need-returns-11
+unfolding kinds offsetOf sum
+returns-11 c = let e : c .before .args .k ≡ 10 = omega arith in rw e refl
+
+returns-12 : tie.Need-returns-12
+unfolding kinds offsetOf sum
+returns-12 c = let e : c .before .args .k ≡ 11 = omega arith in rw e refl
+
+returns-13 : tie.Need-returns-13
+unfolding kinds offsetOf sum
+returns-13 c = let e : c .before .args .k ≡ 12 = search last-kind in rw e refl
 
 pub length-of-spec : {M : Type 1} → statement M
 length-of-spec =
     tie.close
     (tie.spec
-    Inv-loop
-    μ-loop
-    loop-holds
-    field-of-requires
-    add-n
-    add-j
-    loop-less
-    loop-again
-    returns)
+    returns
+    returns-2
+    returns-3
+    returns-4
+    returns-5
+    returns-6
+    returns-7
+    returns-8
+    returns-9
+    returns-10
+    returns-11
+    returns-12
+    returns-13)

@@ -1,63 +1,62 @@
--- `records::number_at` meets its contract: after i bytes n is their number, which i bytes can hold.
+-- `records::number_at` meets its contract, at each width.
 -- Assumes nothing.
 use mathlib.Core.Path.{_≡_}
-use Prim.Native.Nat.{_-_, _^_, _≤_, _<_}
 use native.Mathlib.Omega.{arith}
 use borrow.Author.Needs.{needs}
-use Rattle.laws.specs.Numbers.{numberAt}
-use Rattle.laws.proofs.Numbers.{number-first, number-next, within-next, room}
+use Rattle.laws.proofs.Numbers.{number-first}
+use Rattle.records.proofs.Joins.{join-one}
 use Rattle.records.proofs.number_at.Statement.{statement}
 use Rattle.records.proofs.number_at.Tie as tie
 
-abbrev Inv-loop : tie.InvT-loop
-Inv-loop bytes at w n₀ i₀ n i = (i ≤ w) × (n ≡ numberAt bytes at i) × (n < 256 ^ i)
-
-abbrev μ-loop : tie.MeasureT-loop
-μ-loop bytes at w n₀ i₀ n i = w - i
-
-loop-holds : tie.Need-loop-holds Inv-loop μ-loop
-loop-holds c = (omega arith, search number-first, omega arith)
-
-mul-n : tie.Need-mul-n Inv-loop μ-loop
-mul-n c = omega (arith, room (c .before .loop .i) (c .before .loop .inv .2) (omega arith))
-
-add-wide : tie.Need-add-wide Inv-loop μ-loop
-add-wide c = search needs
-
-shared-slice-read-wide : tie.Need-shared-slice-read-wide Inv-loop μ-loop
+shared-slice-read-wide : tie.Need-shared-slice-read-wide
 shared-slice-read-wide c = search needs
 
-wide-requires : tie.Need-wide-requires Inv-loop μ-loop
+wide-requires : tie.Need-wide-requires
 wide-requires c κs = search needs
 
-add-n : tie.Need-add-n Inv-loop μ-loop
-add-n c = let l = c .before .before .before .loop in omega (arith, room (l .i) (l .inv .2) (omega arith))
+two-at-requires : tie.Need-two-at-requires
+two-at-requires c κs = search needs
 
-add-i : tie.Need-add-i Inv-loop μ-loop
-add-i c = search needs
+four-at-requires : tie.Need-four-at-requires
+four-at-requires c κs = search needs
 
-loop-less : tie.Need-loop-less Inv-loop μ-loop
-loop-less c = search needs
+eight-at-requires : tie.Need-eight-at-requires
+eight-at-requires c κs = search needs
 
-loop-again : tie.Need-loop-again Inv-loop μ-loop
-loop-again c = (omega arith, search number-next, search within-next)
+number-by-bytes-requires : tie.Need-number-by-bytes-requires
+number-by-bytes-requires c κs = search needs
 
-returns : tie.Need-returns Inv-loop μ-loop
-returns c = let e : c .before .loop .i ≡ c .before .before .before .args .w = omega arith in rw e at (c .before .loop .inv .1)
+returns : tie.Need-returns
+returns c = let e : c .before .before .args .w ≡ 0 = omega arith in rw e (search number-first)
+
+returns-2 : tie.Need-returns-2
+returns-2 c = let e : c .before .before .before .before .args .w ≡ 1 = omega arith in rw e (search join-one)
+
+returns-3 : tie.Need-returns-3
+returns-3 c = let e : c .before .before .before .args .w ≡ 2 = omega arith in rw e (c .two-at .ensures .0)
+
+returns-4 : tie.Need-returns-4
+returns-4 c = let e : c .before .before .before .args .w ≡ 4 = omega arith in rw e (c .four-at .ensures .0)
+
+returns-5 : tie.Need-returns-5
+returns-5 c = let e : c .before .before .before .args .w ≡ 8 = omega arith in rw e (c .eight-at .ensures)
+
+returns-6 : tie.Need-returns-6
+returns-6 c = search needs
 
 pub number-at-spec : {M : Type 1} → statement M
 number-at-spec =
     tie.close
     (tie.spec
-    Inv-loop
-    μ-loop
-    loop-holds
-    mul-n
-    add-wide
     shared-slice-read-wide
     wide-requires
-    add-n
-    add-i
-    loop-less
-    loop-again
-    returns)
+    two-at-requires
+    four-at-requires
+    eight-at-requires
+    number-by-bytes-requires
+    returns
+    returns-2
+    returns-3
+    returns-4
+    returns-5
+    returns-6)

@@ -1,0 +1,7 @@
+pub mod Cells
+pub mod Images
+pub mod Moves
+pub mod Places
+pub mod Rows
+pub mod Securities
+pub mod Words

@@ -1,0 +1,68 @@
+-- The book as a state: a number for each row of each table. Bytes are spoken of here and nowhere above.
+-- Assumes nothing.
+use mathlib.Core.Bool.{Bool, _&&_, cond}
+use mathlib.Core.Path.{_≡_}
+use mathlib.Core.List.{List, [], _++_}
+use Prim.Native.Nat.{ℕ, zero, suc, _+_, _-_, _/_, _%_, _^_, _≤_, _<_}
+use lib.Dec.{eqb, leb, ltb}
+use lib.ListN.{getD}
+use Rattle.laws.specs.Filled.{filled}
+use Rattle.laws.specs.Numbers.{numberAt, bytesOf}
+use Rattle.book.specs.Layout.{rowsOf, widthOf, placeOf, tableCount, lots}
+
+-- the number in the row i of the table f
+abbrev pub State : Type 0
+State = ℕ → ℕ → ℕ
+
+-- the state that the bytes of a book stand for; a row that the layout does not have is 0
+unfoldable pub state : List ℕ → State
+state b f i = cond (ltb i (rowsOf f)) (numberAt b (placeOf f i) (widthOf f)) 0
+
+-- the state with x in the row i of the table f
+abbrev pub put : State → ℕ → ℕ → ℕ → State
+put s f i x g j = cond (eqb g f) (cond (eqb j i) x (s g j)) (s g j)
+
+-- the 64 numbers of a table from a row on: an account, a position
+abbrev pub rowAt : State → ℕ → ℕ → List ℕ
+rowAt s f start = filled (λ i. s f (start + i)) 64 64
+
+-- the row j is one of the 64 from a row on
+abbrev pub within : ℕ → ℕ → Bool
+within start j = leb start j && ltb j (start + 64)
+
+-- the state with each of those 64 numbers raised, or lowered, by the number of a list
+abbrev pub raised : State → ℕ → ℕ → List ℕ → State
+raised s f start by g j = cond (eqb g f && within start j) (s g j + getD by (j - start) 0) (s g j)
+
+abbrev pub lowered : State → ℕ → ℕ → List ℕ → State
+lowered s f start by g j = cond (eqb g f && within start j) (s g j - getD by (j - start) 0) (s g j)
+
+-- what a raise counts on: no number passes four bytes; and a lowering: each number is large enough
+pub record Raisable (s : State) (f start : ℕ) (by : List ℕ) : Type 0 where
+  pub room : (i : ℕ) → i < 64 → s f (start + i) + getD by i 0 < 4294967296
+
+pub record Lowerable (s : State) (f start : ℕ) (by : List ℕ) : Type 0 where
+  pub enough : (i : ℕ) → i < 64 → getD by i 0 ≤ s f (start + i)
+
+-- the securities' four columns of 64 numbers: lots, prices, haircuts, quote days
+abbrev pub columnsOf : State → List ℕ
+columnsOf s = filled (λ k. s (lots + k / 64) (k % 64)) 256 256
+
+-- the numbers fit their bytes, and rows that the layout does not have are 0
+pub record Fits (s : State) : Type 0 where
+  pub fits : (f i : ℕ) → i < rowsOf f → s f i < 256 ^ widthOf f
+  pub blank : (f i : ℕ) → rowsOf f ≤ i → s f i ≡ 0
+
+-- the bytes of the rows of a table below n
+unfoldable pub rowsImage : State → ℕ → ℕ → List ℕ
+rowsImage s f zero = []
+rowsImage s f (suc n) = rowsImage s f n ++ bytesOf (widthOf f) (s f n)
+
+-- the bytes of the tables below n
+unfoldable pub imageTo : State → ℕ → List ℕ
+imageTo s zero = []
+imageTo s (suc n) = imageTo s n ++ rowsImage s n (rowsOf n)
+
+-- the bytes of a book in that state
+abbrev pub image : State → List ℕ
+image s = imageTo s tableCount

@@ -1,0 +1,107 @@
+-- Step 12: next day.
+-- Assumes nothing.
+use mathlib.Core.Bool.{Bool, not, _&&_, _||_, cond}
+use mathlib.Core.List.{List, [], _∷_, _++_}
+use Prim.Native.Nat.{ℕ, zero, suc, _+_, _*_}
+use lib.Dec.{eqb, leb}
+use Rattle.laws.specs.Search.{all, count}
+use Rattle.laws.specs.Sum.{sum}
+use Rattle.calendar.specs.Target.{nextOpenDay}
+use Rattle.book.specs.Layout.{today, modes, lists, partials, waitingModes, waitingLists, waitingPartials, numbers, kinds, sides, givers, takers, objects, amounts, settlements, closings, references, settleds, partners, pairPartials, cancels, ends, useds, exposureGivers, exposureTakers, exposureBaskets, exposureClosings, exposures}
+use Rattle.book.specs.State.{State, put}
+use Rattle.rules.specs.Outcome.{Step, Event, closed}
+use Rattle.rules.specs.Requests.{isUsed, isFop, isReturn, isPaired, isWhole, hasKey}
+use Rattle.rules.specs.Stock.{positionOf, giveBack}
+
+-- a closing date is reached on a day; 0 never is
+abbrev pub isReached : ℕ → ℕ → Bool
+isReached day closing = not (eqb closing 0) && leb closing day
+
+-- "drop settled and ended rows, and unpaired rows with settlement up to today"
+abbrev pub isDone : State → ℕ → Bool
+isDone s i = isWhole s i || (eqb (s ends i) 1 || (not (isPaired s i) && leb (s settlements i) (s today 0)))
+
+-- "drop FOP pairs with closing date reached", and "returns naming" an exposure whose closing date is reached
+abbrev pub isClosed : State → ℕ → ℕ → Bool
+isClosed s day i =
+    (isFop s i && (isPaired s i && isReached day (s closings i)))
+    || (isReturn s i && isReached day (s exposureClosings (s objects i)))
+
+-- the rows that a change to a day drops
+abbrev pub isDropped : State → ℕ → ℕ → Bool
+isDropped s day i = isUsed s i && (isDone s i || isClosed s day i)
+
+-- a dropped row holds nothing
+abbrev pub blanked : State → ℕ → State
+blanked s i =
+    put (put (put (put (put (put (put (put (put (put (put (put (put (put (put s
+    numbers i 0) kinds i 0) sides i 0) givers i 0) takers i 0) objects i 0) amounts i 0) settlements i 0) closings i 0)
+    references i 0) settleds i 0) partners i 0) pairPartials i 0) cancels i 0) ends i 0
+
+-- a step on each of the numbers below n that pass a test, in rising order
+unfoldable pub onEach : (ℕ → Bool) → (State → ℕ → State) → ℕ → State → State
+onEach test step zero s = s
+onEach test step (suc i) s = let t = onEach test step i s in cond (test i) (step t i) t
+
+unfoldable pub rowsDropped : State → ℕ → State
+rowsDropped s day = onEach (isDropped s day) blanked 256 s
+
+-- "a change holds from the next day": the profile that waits comes into force
+abbrev pub changeTakesEffect : State → ℕ → State
+changeTakesEffect s p =
+    put (put (put (put (put (put s
+    modes p (s waitingModes p)) lists p (s waitingLists p)) partials p (s waitingPartials p))
+    waitingModes p 0) waitingLists p 0) waitingPartials p 0
+
+unfoldable pub profilesChanged : State → State
+profilesChanged s = onEach (λ p. not (eqb (s waitingModes p) 0)) changeTakesEffect 32 s
+
+-- "zero exposures with closing date reached, give back their positions"
+abbrev pub isExposureClosed : State → ℕ → ℕ → Bool
+isExposureClosed s day e = eqb (s useds e) 1 && isReached day (s exposureClosings e)
+
+abbrev pub exposureClosed : State → ℕ → State
+exposureClosed s e = put (giveBack s e (positionOf s e)) exposures e 0
+
+unfoldable pub exposuresClosed : State → ℕ → State
+exposuresClosed s day = onEach (isExposureClosed s day) exposureClosed 64 s
+
+-- "a return belongs to the one it names", a FOP pair to the one with its key
+abbrev pub belongs : State → ℕ → ℕ → Bool
+belongs s e i =
+    isUsed s i
+    && ((isReturn s i && eqb (s objects i) e)
+    || (isFop s i && (isPaired s i && hasKey s (s givers i) (s takers i) (s objects i) (s closings i) e)))
+
+-- "free exposures of amount 0 to which no row belongs"
+abbrev pub isIdle : State → ℕ → Bool
+isIdle s e = eqb (s useds e) 1 && (eqb (s exposures e) 0 && all (λ i. not (belongs s e i)) 256 0)
+
+abbrev pub exposureFreed : State → ℕ → State
+exposureFreed s e = put (put (put (put (put s useds e 0) exposureGivers e 0) exposureTakers e 0) exposureBaskets e 0) exposureClosings e 0
+
+unfoldable pub exposuresFreed : State → State
+exposuresFreed s = onEach (isIdle s) exposureFreed 64 s
+
+-- in the order of the sentence: drop, "go to the next open day", drop, zero, free
+unfoldable pub dayChanged : State → State
+dayChanged s =
+    let day = nextOpenDay (s today 0) in
+    exposuresFreed (exposuresClosed (profilesChanged (put (rowsDropped s day) today 0 day)) day)
+
+-- what the ledger is told: the amount of each exposure that is closed
+unfoldable pub closings12 : State → ℕ → ℕ → List Event
+closings12 s day zero = []
+closings12 s day (suc e) = closings12 s day e ++ cond (isExposureClosed s day e) (closed e (s exposures e) ∷ []) []
+
+-- 12: "A: new day, B: rows dropped, M: amounts closed."
+unfoldable pub nextDay : State → Step
+nextDay s =
+    let day = nextOpenDay (s today 0) in
+    record {
+      a = day;
+      b = count (isDropped s day) 256 0;
+      m = sum (λ e. cond (isExposureClosed s day e) (s exposures e) 0) 64;
+      state = dayChanged s;
+      events = closings12 s day 64;
+    }

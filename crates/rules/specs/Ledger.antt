@@ -1,0 +1,182 @@
+-- Document 01, "The ledger of demand 3", and demand 3 itself.
+-- Assumes nothing.
+use mathlib.Core.Path.{_≡_}
+use mathlib.Core.Bool.{Bool, true, not, _&&_, cond}
+use mathlib.Core.List.{List, [], _∷_}
+use Prim.Native.Nat.{ℕ, _+_, _*_, _-_, _≤_, _<_}
+use lib.Dec.{eqb}
+use Rattle.book.specs.Layout.{useds, exposureGivers, exposureTakers, exposureBaskets, exposureClosings, exposures}
+use Rattle.book.specs.State.{State, state}
+use Rattle.records.specs.Reading.{read}
+use Rattle.rules.specs.Call.{stepOf, recordCode, opens, callCode, callBook}
+use Rattle.rules.specs.Outcome.{Step, Event, given, settled, returned, closed, lowest, field}
+use Rattle.rules.specs.Reads.{Read, readRules, readCode}
+use Rattle.rules.specs.Sound.{holding}
+
+-- a call of the list: a record's bytes, of any kind, cut or unknown ones too; or a read
+pub data Call : Type 0 where
+  send : List ℕ → Call
+  ask : Read → Call
+
+-- "It keeps on paper what Steps speak of, and sums": D and W for each participant and security, S, R and C for each exposure row
+pub record Paper : Type 0 where
+  pub steps : State
+  pub deposits : ℕ → ℕ → ℕ
+  pub withdrawals : ℕ → ℕ → ℕ
+  pub settlements : ℕ → ℕ
+  pub returns : ℕ → ℕ
+  pub closes : ℕ → ℕ
+
+-- "An exposure's amount on paper is S − R − C."
+abbrev pub amountOnPaper : Paper → ℕ → ℕ
+amountOnPaper p e = p .settlements e - p .returns e - p .closes e
+
+-- what the Steps are run on: the paper, with each exposure's amount by its sums
+unfoldable pub onPaper : Paper → State
+onPaper p f i = cond (eqb f exposures && eqb (p .steps useds i) 1) (amountOnPaper p i) (p .steps f i)
+
+-- a sum with n more at one place
+abbrev pub more : (ℕ → ℕ) → ℕ → ℕ → ℕ → ℕ
+more f e n d = cond (eqb d e) (f d + n) (f d)
+
+abbrev pub more2 : (ℕ → ℕ → ℕ) → ℕ → ℕ → ℕ → ℕ → ℕ → ℕ
+more2 f p i n q j = cond (eqb q p && eqb j i) (f q j + n) (f q j)
+
+abbrev pub zeroAt : (ℕ → ℕ) → ℕ → ℕ → ℕ
+zeroAt f e d = cond (eqb d e) 0 (f d)
+
+-- "A row given out starts with S, R and C at 0. What a FOP settles is added to its exposure's S, what a return settles to R.
+-- In 12, a zeroed exposure's amount is added to C."
+abbrev pub noted : Paper → Event → Paper
+noted p (given e) = record {
+  steps = p .steps;
+  deposits = p .deposits;
+  withdrawals = p .withdrawals;
+  settlements = zeroAt (p .settlements) e;
+  returns = zeroAt (p .returns) e;
+  closes = zeroAt (p .closes) e;
+}
+noted p (settled e x) = record {
+  steps = p .steps;
+  deposits = p .deposits;
+  withdrawals = p .withdrawals;
+  settlements = more (p .settlements) e x;
+  returns = p .returns;
+  closes = p .closes;
+}
+noted p (returned e x) = record {
+  steps = p .steps;
+  deposits = p .deposits;
+  withdrawals = p .withdrawals;
+  settlements = p .settlements;
+  returns = more (p .returns) e x;
+  closes = p .closes;
+}
+noted p (closed e x) = record {
+  steps = p .steps;
+  deposits = p .deposits;
+  withdrawals = p .withdrawals;
+  settlements = p .settlements;
+  returns = p .returns;
+  closes = more (p .closes) e x;
+}
+
+unfoldable pub allNoted : Paper → List Event → Paper
+allNoted p [] = p
+allNoted p (e ∷ es) = allNoted (noted p e) es
+
+-- the paper with the state that a step leaves
+abbrev pub stepped : Paper → State → Paper
+stepped p s = record {
+  steps = s;
+  deposits = p .deposits;
+  withdrawals = p .withdrawals;
+  settlements = p .settlements;
+  returns = p .returns;
+  closes = p .closes;
+}
+
+-- "An opening sets all sums to 0."
+abbrev pub fresh : State → Paper
+fresh s = record { steps = s; deposits = λ p i. 0; withdrawals = λ p i. 0; settlements = λ e. 0; returns = λ e. 0; closes = λ e. 0 }
+
+-- "A deposit adds to D, a withdrawal to W."
+abbrev pub lodged : Paper → ℕ → List ℕ → Paper
+lodged p k r = record {
+  steps = p .steps;
+  deposits = cond (eqb k 4) (more2 (p .deposits) (field r 0) (field r 1) (field r 2)) (p .deposits);
+  withdrawals = cond (eqb k 5) (more2 (p .withdrawals) (field r 0) (field r 1) (field r 2)) (p .withdrawals);
+  settlements = p .settlements;
+  returns = p .returns;
+  closes = p .closes;
+}
+
+-- an accepted record on paper
+unfoldable pub takenDown : Paper → ℕ → List ℕ → Paper
+takenDown p k r =
+    let step = stepOf (onPaper p) k r in
+    cond (eqb k 0) (fresh (step .state)) (allNoted (lodged (stepped p (step .state)) k r) (step .events))
+
+-- "A call's code on paper is the one that the rules above give, 0 if none applies (1 and 2 never do)."
+unfoldable pub paperCode : Paper → Call → ℕ
+paperCode p (send bytes) = recordCode (onPaper p) bytes
+paperCode p (ask q) = lowest (readRules (onPaper p) q)
+
+-- "A call with 0 is accepted and takes its step there; a refused call or a read changes nothing."
+unfoldable pub paperNext : Paper → Call → Paper
+paperNext p (send bytes) = cond (eqb (recordCode (onPaper p) bytes) 0) (takenDown p (read bytes .kind) (read bytes .fields)) p
+paperNext p (ask q) = p
+
+-- a list of calls on paper: the codes, and the paper after it
+unfoldable pub paperCodes : Paper → List Call → List ℕ
+paperCodes p [] = []
+paperCodes p (c ∷ cs) = paperCode p c ∷ paperCodes (paperNext p c) cs
+
+unfoldable pub paperAfter : Paper → List Call → Paper
+paperAfter p [] = p
+paperAfter p (c ∷ cs) = paperAfter (paperNext p c) cs
+
+-- the same list on the book: "each call getting the book that the last one left and nothing else writing to it"
+unfoldable pub bookCode : List ℕ → Call → ℕ
+bookCode b (send bytes) = callCode b bytes
+bookCode b (ask q) = readCode b q
+
+unfoldable pub bookNext : List ℕ → Call → List ℕ
+bookNext b (send bytes) = callBook b bytes
+bookNext b (ask q) = b
+
+unfoldable pub bookCodes : List ℕ → List Call → List ℕ
+bookCodes b [] = []
+bookCodes b (c ∷ cs) = bookCode b c ∷ bookCodes (bookNext b c) cs
+
+unfoldable pub bookAfter : List ℕ → List Call → List ℕ
+bookAfter b [] = b
+bookAfter b (c ∷ cs) = bookAfter (bookNext b c) cs
+
+-- what holds after the list
+pub record Agrees (s : State) (p : Paper) : Type 0 where
+  -- "the account plus the positions of the giver's exposures hold exactly its accepted deposits less its accepted withdrawals"
+  pub bonds : (q i : ℕ) → q < 32 → i < 64 → holding s q i ≡ p .deposits q i - p .withdrawals q i
+  pub covered : (q i : ℕ) → q < 32 → i < 64 → p .withdrawals q i ≤ p .deposits q i
+  -- "The exposures in use are exactly those of document 01's ledger, in the same rows and under the same keys"
+  pub rows : (e : ℕ) → e < 64 → s useds e ≡ p .steps useds e
+  pub givers : (e : ℕ) → e < 64 → s exposureGivers e ≡ p .steps exposureGivers e
+  pub takers : (e : ℕ) → e < 64 → s exposureTakers e ≡ p .steps exposureTakers e
+  pub baskets : (e : ℕ) → e < 64 → s exposureBaskets e ≡ p .steps exposureBaskets e
+  pub closings : (e : ℕ) → e < 64 → s exposureClosings e ≡ p .steps exposureClosings e
+  -- "the amount of each equals the amounts settled into it less those returned and those closed since its row was last given out"
+  pub amounts : (e : ℕ) → e < 64 → s useds e ≡ 1 → s exposures e ≡ amountOnPaper p e
+  pub not-below : (e : ℕ) → e < 64 → s useds e ≡ 1 → p .returns e + p .closes e ≤ p .settlements e
+
+-- a list "that begins with an accepted opening, whatever the book held before"
+pub record Opened (b bytes : List ℕ) : Type 0 where
+  pub kind : opens bytes ≡ true
+  pub accepted : callCode b bytes ≡ 0
+
+pub record Holds (b : List ℕ) (p : Paper) (calls : List Call) : Type 0 where
+  pub codes : bookCodes b calls ≡ paperCodes p calls
+  pub agrees : Agrees (state (bookAfter b calls)) (paperAfter p calls)
+
+-- demand 3: whatever the book held before, and whatever stood on the paper
+abbrev pub Demand3 : Type 0
+Demand3 = (b : List ℕ) (p : Paper) (bytes : List ℕ) (calls : List Call) → Opened b bytes → Holds b p (send bytes ∷ calls)

@@ -1,0 +1,13 @@
+pub mod Call
+pub mod Codes
+pub mod DayChange
+pub mod Ledger
+pub mod Marking
+pub mod Outcome
+pub mod Reads
+pub mod Requesting
+pub mod Requests
+pub mod SetUp
+pub mod Settlement
+pub mod Sound
+pub mod Stock

@@ -1,0 +1,92 @@
+-- Steps 10 and 11: mark, recall.
+-- Assumes nothing.
+use mathlib.Core.Bool.{Bool, not, _&&_, _||_, cond}
+use mathlib.Core.List.{List, []}
+use Prim.Native.Nat.{ℕ, zero, suc, _+_, _*_, _-_}
+use lib.Dec.{eqb, leb, ltb}
+use lib.ListN.{set, replicate}
+use Rattle.laws.specs.Filled.{filled}
+use Rattle.laws.specs.Search.{all, count}
+use Rattle.laws.specs.Sum.{sum}
+use Rattle.book.specs.Layout.{tolerance, positions, useds, exposures}
+use Rattle.book.specs.State.{State}
+use Rattle.picking.specs.declared.Outcome.{Outcome}
+use Rattle.rules.specs.Outcome.{Step, field}
+use Rattle.rules.specs.Stock.{valueOf, eligibleFor, pickFor, freeFor, pledge, giveBack}
+
+-- a step on each used exposure below n, by rising number
+unfoldable pub onExposures : (State → ℕ → State) → ℕ → State → State
+onExposures step zero s = s
+onExposures step (suc e) s =
+    let t = onExposures step e s in
+    cond (eqb (t useds e) 1) (step t e) t
+
+-- "give back ineligible securities": the whole nominal of each
+abbrev pub ineligibleOf : State → ℕ → List ℕ
+ineligibleOf s e = filled (λ i. cond (eligibleFor s e i) 0 (s positions (64 * e + i))) 64 64
+
+unfoldable pub ineligibleBack : State → ℕ → State
+ineligibleBack s e = giveBack s e (ineligibleOf s e)
+
+-- "then on all Free"
+unfoldable pub excessBack : State → ℕ → State
+excessBack s e = giveBack s e (freeFor s e (s exposures e) .nominals)
+
+-- "where the value is below the exposure, Pick the difference"
+unfoldable pub shortfallIn : State → ℕ → State
+shortfallIn s e = cond (ltb (valueOf s e) (s exposures e)) (pledge s e (pickFor s e (eligibleFor s e) (s exposures e - valueOf s e) .nominals)) s
+
+-- the three passes, each over all exposures
+unfoldable pub givenBack : State → State
+givenBack s = onExposures excessBack 64 (onExposures ineligibleBack 64 s)
+
+unfoldable pub covered : State → State
+covered s = onExposures shortfallIn 64 (givenBack s)
+
+-- the position of e is another in the second state
+abbrev pub moved : State → State → ℕ → Bool
+moved s t e = not (all (λ i. eqb (s positions (64 * e + i)) (t positions (64 * e + i))) 64 0)
+
+-- what is missing of a used exposure
+abbrev pub missingOf : State → ℕ → ℕ
+missingOf s e = cond (eqb (s useds e) 1) (s exposures e - valueOf s e) 0
+
+-- 10: "A: exposures that gave back, B: exposures that took in, M: total missing after."
+unfoldable pub marked : State → Step
+marked s = record {
+  a = count (moved s (givenBack s)) 64 0;
+  b = count (moved (givenBack s) (covered s)) 64 0;
+  m = sum (missingOf (covered s)) 64;
+  state = covered s;
+  events = [];
+}
+
+-- 11: "give the nominal back to the giver's account"
+abbrev pub oneNominal : ℕ → ℕ → List ℕ
+oneNominal i n = set (replicate 64 0) i n
+
+abbrev pub recalled : State → List ℕ → State
+recalled s r = giveBack s (field r 1) (oneNominal (field r 2) (field r 3))
+
+-- "Pick what is then missing from the exposure amount, leaving that security out"
+abbrev pub othersEligible : State → ℕ → ℕ → ℕ → Bool
+othersEligible s e left i = eligibleFor s e i && not (eqb i left)
+
+unfoldable pub substitutes : State → List ℕ → Outcome
+substitutes s r =
+    let e = field r 1 in
+    let t = recalled s r in
+    pickFor t e (othersEligible t e (field r 2)) (t exposures e - valueOf t e)
+
+unfoldable pub substituted : State → List ℕ → State
+substituted s r = pledge (recalled s r) (field r 1) (substitutes s r .nominals)
+
+-- "Accepted if the new value plus tolerance exceeds the exposure, or the new value is no lower than before."
+unfoldable pub recallAccepted : State → List ℕ → Bool
+recallAccepted s r =
+    let e = field r 1 in
+    ltb (s exposures e) (valueOf (substituted s r) e + s tolerance 0) || leb (valueOf s e) (valueOf (substituted s r) e)
+
+-- "B: securities picked, M: the value found."
+unfoldable pub recall : State → List ℕ → Step
+recall s r = record { a = 0; b = substitutes s r .count; m = substitutes s r .value; state = substituted s r; events = [] }

@@ -1,0 +1,55 @@
+-- What a call does: an answer of four numbers, the next state, and what the ledger is told.
+-- Assumes nothing.
+use mathlib.Core.Bool.{Bool, true, false, cond}
+use mathlib.Core.List.{List, [], _∷_}
+use Prim.Native.Nat.{ℕ}
+use lib.Dec.{eqb}
+use lib.ListN.{getD}
+use Rattle.book.specs.State.{State}
+
+-- "The answer is code, A, B, M."
+pub record Answer : Type 0 where
+  pub code : ℕ
+  pub a : ℕ
+  pub b : ℕ
+  pub m : ℕ
+
+-- "A, B and M are 0 unless named"
+abbrev pub answer : ℕ → ℕ → ℕ → ℕ → Answer
+answer c a b m = record { code = c; a = a; b = b; m = m }
+
+-- what a step tells the ledger of an exposure row: given out; settled into, returned from or closed, with the amount
+pub data Event : Type 0 where
+  given : ℕ → Event
+  settled : ℕ → ℕ → Event
+  returned : ℕ → ℕ → Event
+  closed : ℕ → ℕ → Event
+
+-- a step: its answer's A, B and M, the state it leaves, and its events in their order
+pub record Step : Type 0 where
+  pub a : ℕ
+  pub b : ℕ
+  pub m : ℕ
+  pub state : State
+  pub events : List Event
+
+-- a step that answers nothing and tells nothing
+abbrev pub silent : State → Step
+silent s = record { a = 0; b = 0; m = 0; state = s; events = [] }
+
+-- "The lowest that applies is given": the codes of a kind in rising order, each with its test
+pub record Rule : Type 0 where
+  pub applies : Bool
+  pub code : ℕ
+
+abbrev pub rule : Bool → ℕ → Rule
+rule t c = record { applies = t; code = c }
+
+-- the first that applies, 0 where none does
+abbrev pub lowest : List Rule → ℕ
+lowest [] = 0
+lowest (r ∷ rs) = cond (r .applies) (r .code) (lowest rs)
+
+-- the field j of a record's body
+abbrev pub field : List ℕ → ℕ → ℕ
+field r j = getD r j 0

@@ -1,0 +1,152 @@
+-- Steps 6 to 8: FOP, return, cancel.
+-- Assumes nothing.
+use mathlib.Core.Bool.{Bool, not, _&&_, _||_, cond}
+use mathlib.Core.List.{List, [], _∷_}
+use Prim.Native.Nat.{ℕ, _+_}
+use lib.Dec.{eqb, ltb}
+use Rattle.laws.specs.Search.{least, leastBy}
+use Rattle.book.specs.Layout.{nextNumber, numbers, kinds, sides, givers, takers, objects, amounts, settlements, closings, references, partners, pairPartials, cancels, ends, useds, exposureGivers, exposureTakers, exposureBaskets, exposureClosings}
+use Rattle.book.specs.State.{State, put}
+use Rattle.rules.specs.Outcome.{Step, Event, silent, given, field}
+use Rattle.rules.specs.Requests.{isUsed, isPaired, partnerOf, isLive, isOwner, acceptsGiver, allowPartial, exposureWith, freeExposure, freeRow}
+
+-- the fields of a request record; a return has no closing
+abbrev pub sideIn : List ℕ → ℕ
+sideIn r = field r 0
+
+abbrev pub giverIn : List ℕ → ℕ
+giverIn r = field r 1
+
+abbrev pub takerIn : List ℕ → ℕ
+takerIn r = field r 2
+
+abbrev pub objectIn : List ℕ → ℕ
+objectIn r = field r 3
+
+abbrev pub amountIn : List ℕ → ℕ
+amountIn r = field r 4
+
+abbrev pub settlementIn : List ℕ → ℕ
+settlementIn r = field r 5
+
+abbrev pub closingIn : ℕ → List ℕ → ℕ
+closingIn k r = cond (eqb k 6) (field r 6) 0
+
+abbrev pub referenceIn : ℕ → List ℕ → ℕ
+referenceIn k r = cond (eqb k 6) (field r 7) (field r 6)
+
+-- "If a giver enters and the taker is automatic, or lists that giver"
+abbrev pub takerFollows : State → List ℕ → Bool
+takerFollows s r = eqb (sideIn r) 0 && acceptsGiver s (takerIn r) (giverIn r)
+
+-- "live unpaired request of the other side equal in all fields but side and reference"
+abbrev pub isEqual : State → ℕ → List ℕ → ℕ → Bool
+isEqual s k r i =
+    isLive s i
+    && (not (isPaired s i)
+    && (eqb (s sides i + sideIn r) 1
+    && (eqb (s kinds i) k
+    && (eqb (s givers i) (giverIn r)
+    && (eqb (s takers i) (takerIn r)
+    && (eqb (s objects i) (objectIn r)
+    && (eqb (s amounts i) (amountIn r) && (eqb (s settlements i) (settlementIn r) && eqb (s closings i) (closingIn k r)))))))))
+
+-- the earliest of them: the one with the lowest number; 256 where there is none
+unfoldable pub earliestEqual : State → ℕ → List ℕ → ℕ
+earliestEqual s k r = leastBy (isEqual s k r) (s numbers) 256 256
+
+-- the request is paired at once: with the taker request made for it, or with an equal one that waits
+abbrev pub pairsNow : State → ℕ → List ℕ → Bool
+pairsNow s k r = takerFollows s r || ltb (earliestEqual s k r) 256
+
+-- how many request rows it needs
+abbrev pub rowsNeeded : State → List ℕ → ℕ
+rowsNeeded s r = cond (takerFollows s r) 2 1
+
+-- "A FOP pair belongs to the exposure of its giver, taker, basket and closing date, or to the lowest free row"
+abbrev pub exposureOf : State → List ℕ → ℕ
+exposureOf s r = exposureWith s (giverIn r) (takerIn r) (objectIn r) (closingIn 6 r)
+
+abbrev pub needsExposure : State → ℕ → List ℕ → Bool
+needsExposure s k r = eqb k 6 && (pairsNow s k r && eqb (exposureOf s r) 64)
+
+abbrev pub exposureGiven : State → List ℕ → ℕ → State
+exposureGiven s r e =
+    put (put (put (put (put s useds e 1) exposureGivers e (giverIn r)) exposureTakers e (takerIn r)) exposureBaskets e (objectIn r)) exposureClosings e (closingIn 6 r)
+
+-- a row with the record's fields, a number, a side, a partner's mark (0 for none) and the pair's partial mark
+unfoldable pub withRow : State → ℕ → List ℕ → ℕ → ℕ → ℕ → ℕ → ℕ → State
+withRow s k r i number side partner partial =
+    put (put (put (put (put (put (put (put (put (put (put (put s
+    numbers i number)
+    kinds i k)
+    sides i side)
+    givers i (giverIn r))
+    takers i (takerIn r))
+    objects i (objectIn r))
+    amounts i (amountIn r))
+    settlements i (settlementIn r))
+    closings i (closingIn k r))
+    references i (referenceIn k r))
+    partners i partner)
+    pairPartials i partial
+
+-- "both parties allowed partial when they paired"
+abbrev pub partialMark : State → List ℕ → ℕ
+partialMark s r = cond (allowPartial s (giverIn r) (takerIn r)) 1 0
+
+-- the rows of a request that gets its taker request made, "with the same reference, numbered next, and paired (B)"
+unfoldable pub withTaker : State → ℕ → List ℕ → State
+withTaker s k r =
+    let n = s nextNumber 0 in
+    let i = freeRow s in
+    let j = freeRow (put s numbers i n) in
+    let mark = partialMark s r in
+    put (withRow (withRow s k r i n 0 (j + 1) mark) k r j (n + 1) 1 (i + 1) mark) nextNumber 0 (n + 2)
+
+-- the row of a request that pairs with the row j, and of one that waits
+unfoldable pub withEqual : State → ℕ → List ℕ → ℕ → State
+withEqual s k r j =
+    let n = s nextNumber 0 in
+    let i = freeRow s in
+    let mark = partialMark s r in
+    put (put (put (withRow s k r i n (sideIn r) (j + 1) mark) partners j (i + 1)) pairPartials j mark) nextNumber 0 (n + 1)
+
+unfoldable pub waiting : State → ℕ → List ℕ → State
+waiting s k r = put (withRow s k r (freeRow s) (s nextNumber 0) (sideIn r) 0 0) nextNumber 0 (s nextNumber 0 + 1)
+
+-- 6, 7: the rows
+abbrev pub rowsEntered : State → ℕ → List ℕ → State
+rowsEntered s k r =
+    cond (takerFollows s r) (withTaker s k r) (cond (ltb (earliestEqual s k r) 256) (withEqual s k r (earliestEqual s k r)) (waiting s k r))
+
+-- B: the number of the request it is paired with
+abbrev pub pairedWith : State → ℕ → List ℕ → ℕ
+pairedWith s k r = cond (takerFollows s r) (s nextNumber 0 + 1) (cond (ltb (earliestEqual s k r) 256) (s numbers (earliestEqual s k r)) 0)
+
+-- 6, 7: "each request gets the next number from 1 (A)"
+unfoldable pub entered : State → ℕ → List ℕ → Step
+entered s k r =
+    let e = freeExposure s in
+    record {
+      a = s nextNumber 0;
+      b = pairedWith s k r;
+      m = 0;
+      state = cond (needsExposure s k r) (exposureGiven (rowsEntered s k r) r e) (rowsEntered s k r);
+      events = cond (needsExposure s k r) (given e ∷ []) [];
+    }
+
+-- the owner's request of that number that has not ended; 256 where there is none
+abbrev pub ownRequest : State → ℕ → ℕ → ℕ
+ownRequest s p n = least (λ i. isUsed s i && (eqb (s numbers i) n && (eqb (s ends i) 0 && isOwner s i p))) 256 0
+
+-- "when both owners have cancelled, or the giver alone where the taker now accepts it automatically"
+abbrev pub pairEnds : State → ℕ → Bool
+pairEnds s i = eqb (s cancels (partnerOf s i)) 1 || (eqb (s sides i) 0 && acceptsGiver s (s takers i) (s givers i))
+
+-- 8: "an unpaired request ends .. A paired one ends, with its partner, when .."; else the owner's cancel is noted
+unfoldable pub cancelled : State → List ℕ → Step
+cancelled s r =
+    let i = ownRequest s (field r 0) (field r 1) in
+    let noted = put s cancels i 1 in
+    silent (cond (isPaired s i) (cond (pairEnds s i) (put (put noted ends i 1) ends (partnerOf s i) 1) noted) (put s ends i 1))
