@@ -129,7 +129,7 @@ partners = 26
 abbrev pub pairPartials : ℕ
 pairPartials = 27
 
--- 1 where its owner has cancelled
+-- 1 where its owner has cancelled it while paired
 abbrev pub cancels : ℕ
 cancels = 28
 

@@ -50,7 +50,7 @@ opens bytes = not (eqb (length bytes) 0) && eqb (getD bytes 0 0) 0
 unfoldable pub callCode : List ℕ → List ℕ → ℕ
 callCode book bytes =
     cond (not (eqb (length book) bookLength)) 1
-    (cond (not (cond (opens bytes) (eqb 0 0) (sound (state book)))) 2 (recordCode (state book) bytes))
+    (cond (not (opens bytes) && not (sound (state book))) 2 (recordCode (state book) bytes))
 
 -- what an accepted record does
 abbrev pub callStep : List ℕ → List ℕ → Step

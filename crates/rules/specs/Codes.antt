@@ -1,7 +1,7 @@
 -- Document 01, "Codes": for each kind the rules that can apply to a record in its ranges, "the lowest that applies" first.
 -- 1, 2 and 3, and 4 by the reader's ranges, come before these (Call.antt).
 -- Assumes nothing.
-use mathlib.Core.Bool.{Bool, not, _&&_, _||_, cond}
+use mathlib.Core.Bool.{not, _&&_, _||_}
 use mathlib.Core.List.{List, [], _∷_}
 use Prim.Native.Nat.{ℕ, _+_, _*_, _-_, _%_}
 use lib.Dec.{eqb, leb, ltb}
@@ -61,7 +61,7 @@ withdrawalRules s r =
 abbrev pub tooFewRows : State → List ℕ → Rule
 tooFewRows s r = rule (ltb (count (λ i. eqb (s numbers i) 0) 256 0) (rowsNeeded s r) || ltb 1000000000 (s nextNumber 0 + rowsNeeded s r)) 14
 
--- the parties of a request: 5, then later 8 and 9
+-- 8: "giver equals taker"
 abbrev pub giverIsTaker : List ℕ → Rule
 giverIsTaker r = rule (eqb (giverIn r) (takerIn r)) 8
 

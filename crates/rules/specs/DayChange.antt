@@ -2,7 +2,7 @@
 -- Assumes nothing.
 use mathlib.Core.Bool.{Bool, not, _&&_, _||_, cond}
 use mathlib.Core.List.{List, [], _∷_, _++_}
-use Prim.Native.Nat.{ℕ, zero, suc, _+_, _*_}
+use Prim.Native.Nat.{ℕ, zero, suc, _+_}
 use lib.Dec.{eqb, leb}
 use Rattle.laws.specs.Search.{all, count}
 use Rattle.laws.specs.Sum.{sum}
@@ -83,7 +83,8 @@ exposureFreed s e = put (put (put (put (put s useds e 0) exposureGivers e 0) exp
 unfoldable pub exposuresFreed : State → State
 exposuresFreed s = onEach (isIdle s) exposureFreed 64 s
 
--- in the order of the sentence: drop, "go to the next open day", drop, zero, free
+-- "go to the next open day": all rows that the sentence drops, before the new day and after, are told by the state before it and
+-- the new day, and dropped at once; then the day and the profiles, the closed exposures, the idle ones
 unfoldable pub dayChanged : State → State
 dayChanged s =
     let day = nextOpenDay (s today 0) in

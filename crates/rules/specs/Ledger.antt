@@ -1,15 +1,15 @@
 -- Document 01, "The ledger of demand 3", and demand 3 itself.
 -- Assumes nothing.
 use mathlib.Core.Path.{_≡_}
-use mathlib.Core.Bool.{Bool, true, not, _&&_, cond}
+use mathlib.Core.Bool.{true, _&&_, cond}
 use mathlib.Core.List.{List, [], _∷_}
-use Prim.Native.Nat.{ℕ, _+_, _*_, _-_, _≤_, _<_}
+use Prim.Native.Nat.{ℕ, _+_, _-_, _≤_, _<_}
 use lib.Dec.{eqb}
 use Rattle.book.specs.Layout.{useds, exposureGivers, exposureTakers, exposureBaskets, exposureClosings, exposures}
 use Rattle.book.specs.State.{State, state}
 use Rattle.records.specs.Reading.{read}
 use Rattle.rules.specs.Call.{stepOf, recordCode, opens, callCode, callBook}
-use Rattle.rules.specs.Outcome.{Step, Event, given, settled, returned, closed, lowest, field}
+use Rattle.rules.specs.Outcome.{Event, given, settled, returned, closed, lowest, field}
 use Rattle.rules.specs.Reads.{Read, readRules, readCode}
 use Rattle.rules.specs.Sound.{holding}
 
@@ -23,13 +23,13 @@ pub record Paper : Type 0 where
   pub steps : State
   pub deposits : ℕ → ℕ → ℕ
   pub withdrawals : ℕ → ℕ → ℕ
-  pub settlements : ℕ → ℕ
+  pub settledIn : ℕ → ℕ
   pub returns : ℕ → ℕ
   pub closes : ℕ → ℕ
 
 -- "An exposure's amount on paper is S − R − C."
 abbrev pub amountOnPaper : Paper → ℕ → ℕ
-amountOnPaper p e = p .settlements e - p .returns e - p .closes e
+amountOnPaper p e = p .settledIn e - p .returns e - p .closes e
 
 -- what the Steps are run on: the paper, with each exposure's amount by its sums
 unfoldable pub onPaper : Paper → State
@@ -52,7 +52,7 @@ noted p (given e) = record {
   steps = p .steps;
   deposits = p .deposits;
   withdrawals = p .withdrawals;
-  settlements = zeroAt (p .settlements) e;
+  settledIn = zeroAt (p .settledIn) e;
   returns = zeroAt (p .returns) e;
   closes = zeroAt (p .closes) e;
 }
@@ -60,7 +60,7 @@ noted p (settled e x) = record {
   steps = p .steps;
   deposits = p .deposits;
   withdrawals = p .withdrawals;
-  settlements = more (p .settlements) e x;
+  settledIn = more (p .settledIn) e x;
   returns = p .returns;
   closes = p .closes;
 }
@@ -68,7 +68,7 @@ noted p (returned e x) = record {
   steps = p .steps;
   deposits = p .deposits;
   withdrawals = p .withdrawals;
-  settlements = p .settlements;
+  settledIn = p .settledIn;
   returns = more (p .returns) e x;
   closes = p .closes;
 }
@@ -76,7 +76,7 @@ noted p (closed e x) = record {
   steps = p .steps;
   deposits = p .deposits;
   withdrawals = p .withdrawals;
-  settlements = p .settlements;
+  settledIn = p .settledIn;
   returns = p .returns;
   closes = more (p .closes) e x;
 }
@@ -91,14 +91,14 @@ stepped p s = record {
   steps = s;
   deposits = p .deposits;
   withdrawals = p .withdrawals;
-  settlements = p .settlements;
+  settledIn = p .settledIn;
   returns = p .returns;
   closes = p .closes;
 }
 
 -- "An opening sets all sums to 0."
 abbrev pub fresh : State → Paper
-fresh s = record { steps = s; deposits = λ p i. 0; withdrawals = λ p i. 0; settlements = λ e. 0; returns = λ e. 0; closes = λ e. 0 }
+fresh s = record { steps = s; deposits = λ p i. 0; withdrawals = λ p i. 0; settledIn = λ e. 0; returns = λ e. 0; closes = λ e. 0 }
 
 -- "A deposit adds to D, a withdrawal to W."
 abbrev pub lodged : Paper → ℕ → List ℕ → Paper
@@ -106,7 +106,7 @@ lodged p k r = record {
   steps = p .steps;
   deposits = cond (eqb k 4) (more2 (p .deposits) (field r 0) (field r 1) (field r 2)) (p .deposits);
   withdrawals = cond (eqb k 5) (more2 (p .withdrawals) (field r 0) (field r 1) (field r 2)) (p .withdrawals);
-  settlements = p .settlements;
+  settledIn = p .settledIn;
   returns = p .returns;
   closes = p .closes;
 }
@@ -157,7 +157,7 @@ bookAfter b (c ∷ cs) = bookAfter (bookNext b c) cs
 pub record Agrees (s : State) (p : Paper) : Type 0 where
   -- "the account plus the positions of the giver's exposures hold exactly its accepted deposits less its accepted withdrawals"
   pub bonds : (q i : ℕ) → q < 32 → i < 64 → holding s q i ≡ p .deposits q i - p .withdrawals q i
-  pub covered : (q i : ℕ) → q < 32 → i < 64 → p .withdrawals q i ≤ p .deposits q i
+  pub withdrawn-within : (q i : ℕ) → q < 32 → i < 64 → p .withdrawals q i ≤ p .deposits q i
   -- "The exposures in use are exactly those of document 01's ledger, in the same rows and under the same keys"
   pub rows : (e : ℕ) → e < 64 → s useds e ≡ p .steps useds e
   pub givers : (e : ℕ) → e < 64 → s exposureGivers e ≡ p .steps exposureGivers e
@@ -166,7 +166,7 @@ pub record Agrees (s : State) (p : Paper) : Type 0 where
   pub closings : (e : ℕ) → e < 64 → s exposureClosings e ≡ p .steps exposureClosings e
   -- "the amount of each equals the amounts settled into it less those returned and those closed since its row was last given out"
   pub amounts : (e : ℕ) → e < 64 → s useds e ≡ 1 → s exposures e ≡ amountOnPaper p e
-  pub not-below : (e : ℕ) → e < 64 → s useds e ≡ 1 → p .returns e + p .closes e ≤ p .settlements e
+  pub not-below : (e : ℕ) → e < 64 → s useds e ≡ 1 → p .returns e + p .closes e ≤ p .settledIn e
 
 -- a list "that begins with an accepted opening, whatever the book held before"
 pub record Opened (b bytes : List ℕ) : Type 0 where
@@ -177,6 +177,7 @@ pub record Holds (b : List ℕ) (p : Paper) (calls : List Call) : Type 0 where
   pub codes : bookCodes b calls ≡ paperCodes p calls
   pub agrees : Agrees (state (bookAfter b calls)) (paperAfter p calls)
 
--- demand 3: whatever the book held before, and whatever stood on the paper
+-- demand 3: whatever the book held before, and whatever stood on the paper. It speaks of the engine through the promises of the exported
+-- entries, whose answers and books are callAnswer, callBook and readAnswer for all lent bytes, and whose reads leave the book as it was
 abbrev pub Demand3 : Type 0
 Demand3 = (b : List ℕ) (p : Paper) (bytes : List ℕ) (calls : List Call) → Opened b bytes → Holds b p (send bytes ∷ calls)

@@ -1,6 +1,6 @@
 -- Steps 10 and 11: mark, recall.
 -- Assumes nothing.
-use mathlib.Core.Bool.{Bool, not, _&&_, _||_, cond}
+use mathlib.Core.Bool.{Bool, not, _||_, cond}
 use mathlib.Core.List.{List, []}
 use Prim.Native.Nat.{ℕ, zero, suc, _+_, _*_, _-_}
 use lib.Dec.{eqb, leb, ltb}
@@ -10,6 +10,7 @@ use Rattle.laws.specs.Search.{all, count}
 use Rattle.laws.specs.Sum.{sum}
 use Rattle.book.specs.Layout.{tolerance, positions, useds, exposures}
 use Rattle.book.specs.State.{State}
+use Rattle.picking.specs.Pick.{butNot}
 use Rattle.picking.specs.declared.Outcome.{Outcome}
 use Rattle.rules.specs.Outcome.{Step, field}
 use Rattle.rules.specs.Stock.{valueOf, eligibleFor, pickFor, freeFor, pledge, giveBack}
@@ -40,8 +41,8 @@ shortfallIn s e = cond (ltb (valueOf s e) (s exposures e)) (pledge s e (pickFor 
 unfoldable pub givenBack : State → State
 givenBack s = onExposures excessBack 64 (onExposures ineligibleBack 64 s)
 
-unfoldable pub covered : State → State
-covered s = onExposures shortfallIn 64 (givenBack s)
+unfoldable pub searched : State → State
+searched s = onExposures shortfallIn 64 (givenBack s)
 
 -- the position of e is another in the second state
 abbrev pub moved : State → State → ℕ → Bool
@@ -55,9 +56,9 @@ missingOf s e = cond (eqb (s useds e) 1) (s exposures e - valueOf s e) 0
 unfoldable pub marked : State → Step
 marked s = record {
   a = count (moved s (givenBack s)) 64 0;
-  b = count (moved (givenBack s) (covered s)) 64 0;
-  m = sum (missingOf (covered s)) 64;
-  state = covered s;
+  b = count (moved (givenBack s) (searched s)) 64 0;
+  m = sum (missingOf (searched s)) 64;
+  state = searched s;
   events = [];
 }
 
@@ -69,14 +70,11 @@ abbrev pub recalled : State → List ℕ → State
 recalled s r = giveBack s (field r 1) (oneNominal (field r 2) (field r 3))
 
 -- "Pick what is then missing from the exposure amount, leaving that security out"
-abbrev pub othersEligible : State → ℕ → ℕ → ℕ → Bool
-othersEligible s e left i = eligibleFor s e i && not (eqb i left)
-
 unfoldable pub substitutes : State → List ℕ → Outcome
 substitutes s r =
     let e = field r 1 in
     let t = recalled s r in
-    pickFor t e (othersEligible t e (field r 2)) (t exposures e - valueOf t e)
+    pickFor t e (butNot (field r 2) (eligibleFor t e)) (t exposures e - valueOf t e)
 
 unfoldable pub substituted : State → List ℕ → State
 substituted s r = pledge (recalled s r) (field r 1) (substitutes s r .nominals)

@@ -1,9 +1,8 @@
 -- What a call does: an answer of four numbers, the next state, and what the ledger is told.
 -- Assumes nothing.
-use mathlib.Core.Bool.{Bool, true, false, cond}
+use mathlib.Core.Bool.{Bool, cond}
 use mathlib.Core.List.{List, [], _∷_}
 use Prim.Native.Nat.{ℕ}
-use lib.Dec.{eqb}
 use lib.ListN.{getD}
 use Rattle.book.specs.State.{State}
 
@@ -14,7 +13,6 @@ pub record Answer : Type 0 where
   pub b : ℕ
   pub m : ℕ
 
--- "A, B and M are 0 unless named"
 abbrev pub answer : ℕ → ℕ → ℕ → ℕ → Answer
 answer c a b m = record { code = c; a = a; b = b; m = m }
 
@@ -33,11 +31,11 @@ pub record Step : Type 0 where
   pub state : State
   pub events : List Event
 
--- a step that answers nothing and tells nothing
+-- "A, B and M are 0 unless named": a step that answers nothing and tells nothing
 abbrev pub silent : State → Step
 silent s = record { a = 0; b = 0; m = 0; state = s; events = [] }
 
--- "The lowest that applies is given": the codes of a kind in rising order, each with its test
+-- a code with its test; the rules of a kind stand in the order of their codes, but for kind 11, where 12 comes before 10
 pub record Rule : Type 0 where
   pub applies : Bool
   pub code : ℕ
@@ -45,7 +43,7 @@ pub record Rule : Type 0 where
 abbrev pub rule : Bool → ℕ → Rule
 rule t c = record { applies = t; code = c }
 
--- the first that applies, 0 where none does
+-- "The lowest that applies is given": the first of the list that does, 0 where none does
 abbrev pub lowest : List Rule → ℕ
 lowest [] = 0
 lowest (r ∷ rs) = cond (r .applies) (r .code) (lowest rs)

@@ -1,14 +1,14 @@
 -- The reads: "an account's or position's nominal of one security, an exposure, a request by its number, or a basket".
 -- "A read refuses with 1, 2, 4 or 5 (a row not in use counts as 5)." A read changes no byte.
 -- Assumes nothing.
-use mathlib.Core.Bool.{Bool, not, _&&_, _||_, cond}
+use mathlib.Core.Bool.{not, _&&_, _||_, cond}
 use mathlib.Core.List.{List, [], _∷_}
 use Prim.Native.Nat.{ℕ, _+_, _*_}
-use lib.Dec.{eqb, leb, ltb}
+use lib.Dec.{eqb, leb}
 use lib.ListN.{length, replicate}
 use Rattle.laws.specs.Bits.{hasBit}
 use Rattle.laws.specs.Search.{least, count}
-use Rattle.book.specs.Layout.{bookLength, maps, ages, numbers, kinds, sides, givers, takers, objects, amounts, settlements, closings, references, settleds, partners, pairPartials, cancels, ends, useds, exposureGivers, exposureTakers, exposureBaskets, exposureClosings, exposures, accounts, positions}
+use Rattle.book.specs.Layout.{bookLength, maps, ages, numbers, kinds, sides, givers, takers, objects, amounts, settlements, closings, references, settleds, pairPartials, cancels, ends, useds, exposureGivers, exposureTakers, exposureBaskets, exposureClosings, exposures, accounts, positions}
 use Rattle.book.specs.State.{State, state}
 use Rattle.rules.specs.Outcome.{Rule, rule, lowest}
 use Rattle.rules.specs.Requests.{isUsed, isPaired, partnerOf}
@@ -54,3 +54,9 @@ readValues s (request n) =
     s kinds i ∷ s sides i ∷ s givers i ∷ s takers i ∷ s objects i ∷ s amounts i ∷ s settlements i ∷ s closings i ∷ s references i ∷ s settleds i
     ∷ partnerNumber s i ∷ s pairPartials i ∷ s cancels i ∷ s ends i ∷ []
 readValues s (basket b) = s maps b ∷ s ages b ∷ count (hasBit (s maps b)) 64 0 ∷ least (hasBit (s maps b)) 64 0 ∷ []
+
+-- the whole answer of a read: its code, then its values, or as many zeros
+unfoldable pub readAnswer : List ℕ → Read → List ℕ
+readAnswer book q =
+    let values = readValues (state book) q in
+    readCode book q ∷ cond (eqb (readCode book q) 0) values (replicate (length values) 0)

@@ -7,8 +7,8 @@ use lib.Dec.{eqb, ltb}
 use Rattle.laws.specs.Search.{least, leastBy}
 use Rattle.book.specs.Layout.{nextNumber, numbers, kinds, sides, givers, takers, objects, amounts, settlements, closings, references, partners, pairPartials, cancels, ends, useds, exposureGivers, exposureTakers, exposureBaskets, exposureClosings}
 use Rattle.book.specs.State.{State, put}
-use Rattle.rules.specs.Outcome.{Step, Event, silent, given, field}
-use Rattle.rules.specs.Requests.{isUsed, isPaired, partnerOf, isLive, isOwner, acceptsGiver, allowPartial, exposureWith, freeExposure, freeRow}
+use Rattle.rules.specs.Outcome.{Step, silent, given, field}
+use Rattle.rules.specs.Requests.{isUsed, isPaired, partnerOf, isWhole, isLive, isOwner, acceptsGiver, allowPartial, exposureWith, freeExposure, freeRow}
 
 -- the fields of a request record; a return has no closing
 abbrev pub sideIn : List ℕ → ℕ
@@ -63,7 +63,7 @@ pairsNow s k r = takerFollows s r || ltb (earliestEqual s k r) 256
 abbrev pub rowsNeeded : State → List ℕ → ℕ
 rowsNeeded s r = cond (takerFollows s r) 2 1
 
--- "A FOP pair belongs to the exposure of its giver, taker, basket and closing date, or to the lowest free row"
+-- "A FOP pair belongs to the exposure of its giver, taker, basket and closing date": its row, 64 where there is none yet
 abbrev pub exposureOf : State → List ℕ → ℕ
 exposureOf s r = exposureWith s (giverIn r) (takerIn r) (objectIn r) (closingIn 6 r)
 
@@ -136,9 +136,9 @@ entered s k r =
       events = cond (needsExposure s k r) (given e ∷ []) [];
     }
 
--- the owner's request of that number that has not ended; 256 where there is none
+-- the owner's request of that number that has not ended, or has settled whole; 256 where there is none
 abbrev pub ownRequest : State → ℕ → ℕ → ℕ
-ownRequest s p n = least (λ i. isUsed s i && (eqb (s numbers i) n && (eqb (s ends i) 0 && isOwner s i p))) 256 0
+ownRequest s p n = least (λ i. isUsed s i && (eqb (s numbers i) n && ((eqb (s ends i) 0 || isWhole s i) && isOwner s i p))) 256 0
 
 -- "when both owners have cancelled, or the giver alone where the taker now accepts it automatically"
 abbrev pub pairEnds : State → ℕ → Bool

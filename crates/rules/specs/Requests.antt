@@ -1,11 +1,11 @@
 -- Request rows: what is said of one, and of a pair.
 -- Assumes nothing.
 use mathlib.Core.Bool.{Bool, not, _&&_, _||_}
-use Prim.Native.Nat.{ℕ, _+_, _*_, _-_}
-use lib.Dec.{eqb, leb, ltb}
+use Prim.Native.Nat.{ℕ, _-_}
+use lib.Dec.{eqb, leb}
 use Rattle.laws.specs.Bits.{hasBit}
 use Rattle.laws.specs.Search.{least}
-use Rattle.book.specs.Layout.{today, modes, lists, partials, numbers, kinds, sides, givers, takers, objects, amounts, settlements, closings, settleds, partners, cancels, ends, useds, exposureGivers, exposureTakers, exposureBaskets, exposureClosings}
+use Rattle.book.specs.Layout.{modes, lists, partials, numbers, kinds, sides, givers, takers, objects, amounts, closings, settleds, partners, ends, useds, exposureGivers, exposureTakers, exposureBaskets, exposureClosings}
 use Rattle.book.specs.State.{State}
 
 -- the row is used: it has a request's number

@@ -1,6 +1,6 @@
 -- Step 9: settle.
 -- Assumes nothing.
-use mathlib.Core.Bool.{Bool, not, _&&_, _||_, cond}
+use mathlib.Core.Bool.{Bool, _&&_, cond}
 use mathlib.Core.List.{List, [], _∷_, _++_}
 use Prim.Native.Nat.{ℕ, zero, suc, _+_, _*_, _-_, min}
 use lib.Dec.{eqb, leb, ltb}
@@ -23,7 +23,7 @@ pub record Settling : Type 0 where
 abbrev pub orderOf : State → ℕ → ℕ
 orderOf s i = s settlements i * 4294967296 + s numbers i
 
--- "live pairs due today or earlier", of one kind, by their later request, that come after the last one settled
+-- "live pairs due today or earlier", of one kind, by their later request, that come after the last one tried
 abbrev pub isDue : State → ℕ → ℕ → ℕ → Bool
 isDue s kind last i =
     isLive s i

@@ -1,4 +1,6 @@
--- Document 01: "A book is sound when: ..", clause by clause; and what unused rows hold: zero.
+-- Document 01: "A book is sound when: ..", clause by clause, and what its words leave to the layout: unused rows and spare rows hold 0,
+-- a return has no closing, the partial mark is the same on both rows of a pair and 0 on an unpaired one, and a profile waits only where
+-- one is in force.
 -- Assumes nothing.
 use mathlib.Core.Bool.{Bool, not, _&&_, _||_, cond}
 use Prim.Native.Nat.{ℕ, _+_, _*_, _%_}

@@ -1,10 +1,9 @@
 -- Accounts, positions and securities: what a Pick or a Free is given out of the state, and how bonds move.
 -- Assumes nothing.
-use mathlib.Core.Bool.{Bool, not, _&&_, cond}
+use mathlib.Core.Bool.{Bool, not}
 use mathlib.Core.List.{List}
-use Prim.Native.Nat.{ℕ, _+_, _*_, _-_}
+use Prim.Native.Nat.{ℕ, _*_, _-_}
 use lib.Dec.{eqb}
-use lib.ListN.{getD}
 use Rattle.baskets.specs.Basket.{eligible}
 use Rattle.baskets.specs.declared.Basket.{Basket}
 use Rattle.book.specs.Layout.{today, lots, modes, maps, ages, accounts, positions, exposureGivers, exposureBaskets}
