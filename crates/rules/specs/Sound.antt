@@ -169,16 +169,16 @@ soundHoldings s p = all (soundHolding s p) 64 0
 abbrev pub isSpare : State → ℕ → Bool
 isSpare s k = eqb (s spares k) 0
 
+-- what is set up, the request rows, and the exposures with what they hold
+abbrev pub soundSetUp : State → Bool
+soundSetUp s = soundHead s && (all (soundSecurity s) 64 0 && (all (soundParticipant s) 32 0 && (all (soundBasket s) 16 0 && all (isSpare s) 589 0)))
+
+abbrev pub soundRequests : State → Bool
+soundRequests s = all (soundRow s) 256 0 && all (distinctNumber s) 256 0
+
+abbrev pub soundExposures : State → Bool
+soundExposures s = all (soundExposure s) 64 0 && (all (distinctKey s) 64 0 && (all (soundPositions s) 64 0 && all (soundHoldings s) 32 0))
+
 -- the whole sentence
 unfoldable pub sound : State → Bool
-sound s =
-    soundHead s
-    && (all (soundSecurity s) 64 0
-    && (all (soundParticipant s) 32 0
-    && (all (soundBasket s) 16 0
-    && (all (soundRow s) 256 0
-    && (all (distinctNumber s) 256 0
-    && (all (soundExposure s) 64 0
-    && (all (distinctKey s) 64 0
-    && (all (soundPositions s) 64 0
-    && (all (soundHoldings s) 32 0 && all (isSpare s) 589 0)))))))))
+sound s = soundSetUp s && (soundRequests s && soundExposures s)

@@ -1,0 +1,109 @@
+-- What each way out of the tests of an exposure and of a position shows.
+-- Assumes nothing.
+use mathlib.Core.Path.{_≡_, refl, sym, ap, _∙_}
+use mathlib.Core.Bool.{Bool, true, false, not, _&&_, _||_, cond, and-false, and-true}
+use Prim.Native.Nat.{ℕ, zero, suc, _+_, _*_, _-_, _%_, _≤_, _<_}
+use native.Mathlib.Nat.{sub-zero}
+use native.Mathlib.Omega.{arith}
+use lib.Dec.{eqb, leb}
+use borrow.Author.Tests.{eq-eqb, ne-eqb, not-true, not-false}
+use Rattle.laws.specs.Search.{all}
+use Rattle.book.specs.Layout.{rowsOf, lots, useds, exposureGivers, exposureTakers, exposureBaskets, exposureClosings, exposures, positions}
+use Rattle.book.specs.State.{State}
+use Rattle.rules.specs.Sound.{openOrNone, soundParties, basketNamed, alike, blank, soundExposure, otherKey, distinctKey, soundPosition}
+use Rattle.sound_setup.specs.Rows.{InRows}
+
+-- the tables of an exposure have 64 rows
+rows-of : (k : ℕ) → k < 5 → rowsOf (exposureGivers + k) ≡ 64
+rows-of zero h = refl
+rows-of (suc zero) h = refl
+rows-of (suc (suc zero)) h = refl
+rows-of (suc (suc (suc zero))) h = refl
+rows-of (suc (suc (suc (suc zero)))) h = refl
+rows-of (suc (suc (suc (suc (suc k))))) h = absurd (omega arith)
+
+in-table : (n e f : ℕ) → n ≤ 5 → e < 64 → exposureGivers ≤ f → f < exposureGivers + n → e < rowsOf f
+in-table n e f h l a b =
+    let k : f ≡ exposureGivers + (f - exposureGivers) = omega arith in
+    rw (ap rowsOf k ∙ rows-of (f - exposureGivers) (omega arith)) l
+
+pub in-exposures : (n e : ℕ) → n ≤ 5 → e < 64 → InRows n exposureGivers e
+in-exposures n e h l = record { tables = omega arith; row = λ f a b. in-table n e f h l a b }
+
+module _ (s : State) (e : ℕ) {u : ℕ} (q : u ≡ s useds e) where
+  pub unused : {b : Bool} → u ≡ 0 → b ≡ blank s 5 exposureGivers e → b ≡ soundExposure s e
+  unused z h = rw (eq-eqb (s useds e) 0 (sym q ∙ z)) h
+
+  -- the tests of a used row
+  abbrev used-tests : Bool
+  used-tests =
+      soundParties s (s exposureGivers e) (s exposureTakers e)
+      && (basketNamed s (s exposureBaskets e) && (openOrNone (s exposureClosings e) && leb (s exposures e) 10000000000000))
+
+  by-tests : (u ≡ 0 → ⊥) → u ≡ 1 → soundExposure s e ≡ used-tests
+  by-tests z o = rw (ne-eqb (s useds e) 0 (λ p. z (q ∙ p)), eq-eqb (s useds e) 1 (sym q ∙ o))
+
+  pub bad-mark : (u ≡ 0 → ⊥) → (u ≡ 1 → ⊥) → false ≡ soundExposure s e
+  bad-mark z o = rw (ne-eqb (s useds e) 0 (λ p. z (q ∙ p)), ne-eqb (s useds e) 1 (λ p. o (q ∙ p)))
+
+  module _ (z : u ≡ 0 → ⊥) (o : u ≡ 1) {g t : ℕ} (gq : g ≡ s exposureGivers e) (tq : t ≡ s exposureTakers e) {p : Bool} (pq : p ≡ soundParties s g t) where
+    parties : p ≡ soundParties s (s exposureGivers e) (s exposureTakers e)
+    parties = rw (← gq, ← tq) pq
+
+    pub bad-parties : not p ≡ true → false ≡ soundExposure s e
+    bad-parties f = rw (by-tests z o, sym parties ∙ not-true p f)
+
+    module _ (pf : not p ≡ false) {k : ℕ} (kq : k ≡ s exposureBaskets e) {b : Bool} (bq : b ≡ basketNamed s k) where
+      basket : b ≡ basketNamed s (s exposureBaskets e)
+      basket = rw (← kq) bq
+
+      pub bad-basket : not b ≡ true → false ≡ soundExposure s e
+      bad-basket f = rw (by-tests z o, sym basket ∙ not-true b f, and-false)
+
+      module _ (bf : not b ≡ false) {d : ℕ} (dq : d ≡ s exposureClosings e) {c : Bool} (cq : c ≡ openOrNone d) where
+        closing : c ≡ openOrNone (s exposureClosings e)
+        closing = rw (← dq) cq
+
+        pub bad-closing : not c ≡ true → false ≡ soundExposure s e
+        bad-closing f = rw (by-tests z o, sym closing ∙ not-true c f, and-false, and-false)
+
+        pub by-amount : not c ≡ false → {a : ℕ} → a ≡ s exposures e → leb a 10000000000000 ≡ soundExposure s e
+        by-amount f aq = rw (by-tests z o, sym parties ∙ not-false p pf, sym basket ∙ not-false b bf, sym closing ∙ not-false c f, ← aq)
+
+-- the key of another exposure
+module _ (s : State) (e d : ℕ) {u : ℕ} (q : u ≡ s useds d) where
+  pub other-unused : (u ≡ 1 → ⊥) → true ≡ otherKey s e d
+  other-unused o = rw (ne-eqb (s useds d) 1 (λ p. o (q ∙ p)))
+
+  pub by-key : u ≡ 1 → {b : Bool} → b ≡ alike s 4 exposureGivers e d → not b ≡ otherKey s e d
+  by-key o h = rw (eq-eqb (s useds d) 1 (sym q ∙ o), h)
+
+module _ (s : State) (e : ℕ) {u : ℕ} (q : u ≡ s useds e) where
+  pub no-key : u ≡ 0 → true ≡ distinctKey s e
+  no-key z = rw (eq-eqb (s useds e) 0 (sym q ∙ z))
+
+  pub keys-of : (u ≡ 0 → ⊥) → all (otherKey s e) (e - 0) 0 ≡ distinctKey s e
+  keys-of z = rw (ne-eqb (s useds e) 0 (λ p. z (q ∙ p)), sub-zero)
+
+-- a position
+module _ (s : State) (e i : ℕ) {n : ℕ} (q : n ≡ s positions (64 * e + i)) where
+  pub no-position : n ≡ 0 → true ≡ soundPosition s e i
+  no-position z = rw (eq-eqb (s positions (64 * e + i)) 0 (sym q ∙ z))
+
+  module _ (z : n ≡ 0 → ⊥) {u : ℕ} (uq : u ≡ s useds e) where
+    held : soundPosition s e i ≡ (eqb (s useds e) 1 && (not (eqb (s exposures e) 0) && (not (eqb (s lots i) 0) && eqb (s positions (64 * e + i) % s lots i) 0)))
+    held = rw (ne-eqb (s positions (64 * e + i)) 0 (λ p. z (q ∙ p)))
+
+    pub in-unused : (u ≡ 1 → ⊥) → false ≡ soundPosition s e i
+    in-unused o = rw (held, ne-eqb (s useds e) 1 (λ p. o (uq ∙ p)))
+
+    module _ (o : u ≡ 1) {a : ℕ} (aq : a ≡ s exposures e) where
+      pub in-nothing : a ≡ 0 → false ≡ soundPosition s e i
+      in-nothing y = rw (held, eq-eqb (s exposures e) 0 (sym aq ∙ y), and-false)
+
+      module _ (y : a ≡ 0 → ⊥) {l : ℕ} (lq : l ≡ s lots i) where
+        pub of-unset : l ≡ 0 → false ≡ soundPosition s e i
+        of-unset x = rw (held, eq-eqb (s lots i) 0 (sym lq ∙ x), and-false, and-false)
+
+        pub by-lots : (l ≡ 0 → ⊥) → eqb (n % l) 0 ≡ soundPosition s e i
+        by-lots x = rw (held, eq-eqb (s useds e) 1 (sym uq ∙ o), ne-eqb (s exposures e) 0 (λ p. y (aq ∙ p)), ne-eqb (s lots i) 0 (λ p. x (lq ∙ p)), q, lq)

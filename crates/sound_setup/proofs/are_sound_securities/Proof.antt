@@ -1,0 +1,53 @@
+-- `sound_setup::are_sound_securities` meets its contract: those below `i` passed.
+-- Assumes nothing.
+use Prim.Native.Nat.{_-_, _≤_}
+use mathlib.Core.Path.{refl}
+use native.Mathlib.Omega.{arith}
+use Rattle.laws.specs.Search.{all}
+use Rattle.laws.proofs.Least.{Rest, loop-fails, loop-passes, loop-ends}
+use Rattle.book.specs.State.{state}
+use Rattle.rules.specs.Sound.{soundSecurity}
+use borrow.Author.Needs.{needs}
+use Rattle.sound_setup.proofs.are_sound_securities.Statement.{statement}
+use Rattle.sound_setup.proofs.are_sound_securities.Tie as tie
+
+abbrev Inv-loop : tie.InvT-loop
+Inv-loop book i₀ i = (i ≤ 64) × Rest (soundSecurity (state book)) 64 i (all (soundSecurity (state book)) 64 0)
+
+abbrev μ-loop : tie.MeasureT-loop
+μ-loop book i₀ i = 64 - i
+
+loop-holds : tie.Need-loop-holds Inv-loop μ-loop
+loop-holds c = (omega arith, record { decides = refl })
+
+is-sound-security-requires : tie.Need-is-sound-security-requires Inv-loop μ-loop
+is-sound-security-requires c κs = search needs
+
+returns : tie.Need-returns Inv-loop μ-loop
+returns c = search loop-fails
+
+add-i : tie.Need-add-i Inv-loop μ-loop
+add-i c = search needs
+
+loop-less : tie.Need-loop-less Inv-loop μ-loop
+loop-less c = search needs
+
+loop-again : tie.Need-loop-again Inv-loop μ-loop
+loop-again c = (omega arith, search loop-passes)
+
+returns-2 : tie.Need-returns-2 Inv-loop μ-loop
+returns-2 c = search loop-ends
+
+pub are-sound-securities-spec : {M : Type 1} → statement M
+are-sound-securities-spec =
+    tie.close
+    (tie.spec
+    Inv-loop
+    μ-loop
+    loop-holds
+    is-sound-security-requires
+    returns
+    add-i
+    loop-less
+    loop-again
+    returns-2)

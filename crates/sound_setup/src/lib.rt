@@ -1,0 +1,275 @@
+// Document 01's soundness sentence, of what is set up: the book's head, securities, participants, baskets, spare rows.
+ghost use mathlib.Core.Path.{_≡_};
+ghost use Prim.Native.Nat.{_<_, _+_, _≤_};
+ghost use lib.ListN.{length};
+ghost use lib.Dec.{eqb};
+ghost use Rattle.laws.specs.Search.{all};
+ghost use Rattle.book.specs.Layout.{bookLength, tableCount, rowsOf, spares};
+ghost use Rattle.book.specs.State.{state};
+ghost use Rattle.rules.specs.Sound.{between, openOrNone, soundHead, soundSecurity, soundProfile, soundParticipant, soundBasket, soundParties, basketNamed, same, alike, blank, isSpare};
+ghost use Rattle.sound_setup.specs.Rows.{InRows};
+use book::layout::AGES;
+use book::layout::HAIRCUTS;
+use book::layout::LISTS;
+use book::layout::LOTS;
+use book::layout::MAPS;
+use book::layout::MODES;
+use book::layout::NEXT_NUMBER;
+use book::layout::PARTIALS;
+use book::layout::PRICES;
+use book::layout::QUOTES;
+use book::layout::SPARES;
+use book::layout::TODAY;
+use book::layout::TOLERANCE;
+use book::layout::WAITING_LISTS;
+use book::layout::WAITING_MODES;
+use book::layout::WAITING_PARTIALS;
+
+// Is a number in a range?
+pub fn is_between(low: u64, high: u64, x: u64) -> bool
+    ensures { λ r. ⌜ r ≡ between low high x ⌝ }
+{
+    if x < low {
+        return false;
+    }
+    x <= high
+}
+
+// Is a closing day open, or none?
+pub fn is_open_or_none(day: u64) -> bool
+    ensures { λ r. ⌜ r ≡ openOrNone day ⌝ }
+{
+    if day == 0 {
+        return true;
+    }
+    calendar::is_open(day)
+}
+
+// Do two rows of a table hold the same?
+fn is_same(book: &[u8], f: usize, i: usize, j: usize) -> bool
+    requires { ⌜ (length (now book) ≡ bookLength) × (f < tableCount) × (i < rowsOf f) × (j < rowsOf f) ⌝ }
+    ensures { λ r. ⌜ r ≡ same (state (now (book .entry))) f i j ⌝ }
+{
+    book::get(book, f, i) == book::get(book, f, j)
+}
+
+// Does a row of a table hold nothing?
+fn is_zero(book: &[u8], f: usize, i: usize) -> bool
+    requires { ⌜ (length (now book) ≡ bookLength) × (f < tableCount) × (i < rowsOf f) ⌝ }
+    ensures { λ r. ⌜ r ≡ eqb (state (now (book .entry)) f i) 0 ⌝ }
+{
+    book::get(book, f, i) == 0
+}
+
+// Do two rows hold the same in each of n tables from one on?
+pub fn are_alike(book: &[u8], n: usize, from: usize, i: usize, j: usize) -> bool
+    requires { ⌜ (length (now book) ≡ bookLength) × InRows n from i × InRows n from j ⌝ }
+    ensures { λ r. ⌜ r ≡ alike (state (now (book .entry))) n from i j ⌝ }
+{
+    let mut f = from;
+    while f < from + n {
+        if !is_same(book, f, i, j) {
+            return false;
+        }
+        f += 1;
+    }
+    true
+}
+
+// Does a row hold nothing in any of n tables from one on?
+pub fn is_blank(book: &[u8], n: usize, from: usize, i: usize) -> bool
+    requires { ⌜ (length (now book) ≡ bookLength) × InRows n from i ⌝ }
+    ensures { λ r. ⌜ r ≡ blank (state (now (book .entry))) n from i ⌝ }
+{
+    let mut f = from;
+    while f < from + n {
+        if !is_zero(book, f, i) {
+            return false;
+        }
+        f += 1;
+    }
+    true
+}
+
+// The head: an open today, a tolerance and a next number in their ranges.
+pub fn is_sound_head(book: &[u8]) -> bool
+    requires { ⌜ length (now book) ≡ bookLength ⌝ }
+    ensures { λ r. ⌜ r ≡ soundHead (state (now (book .entry))) ⌝ }
+{
+    if !calendar::is_open(book::get(book, TODAY, 0)) {
+        return false;
+    }
+    if !is_between(1, 100000000, book::get(book, TOLERANCE, 0)) {
+        return false;
+    }
+    is_between(1, 1000000000, book::get(book, NEXT_NUMBER, 0))
+}
+
+fn is_sound_security(book: &[u8], i: usize) -> bool
+    requires { ⌜ (length (now book) ≡ bookLength) × (i < 64) ⌝ }
+    ensures { λ r. ⌜ r ≡ soundSecurity (state (now (book .entry))) i ⌝ }
+{
+    let lot = book::get(book, LOTS, i);
+    let price = book::get(book, PRICES, i);
+    let haircut = book::get(book, HAIRCUTS, i);
+    let quote = book::get(book, QUOTES, i);
+    if lot == 0 {
+        if price != 0 {
+            return false;
+        }
+        if haircut != 0 {
+            return false;
+        }
+        return quote == 0;
+    }
+    if 1000000 < lot {
+        return false;
+    }
+    if !is_between(1, 3000000, price) {
+        return false;
+    }
+    if 9999 < haircut {
+        return false;
+    }
+    calendar::is_open(quote)
+}
+
+pub fn are_sound_securities(book: &[u8]) -> bool
+    requires { ⌜ length (now book) ≡ bookLength ⌝ }
+    ensures { λ r. ⌜ r ≡ all (soundSecurity (state (now (book .entry)))) 64 0 ⌝ }
+{
+    let mut i: usize = 0;
+    while i < 64 {
+        if !is_sound_security(book, i) {
+            return false;
+        }
+        i += 1;
+    }
+    true
+}
+
+fn is_sound_profile(mode: u64, list: u64, partial: u64) -> bool
+    ensures { λ r. ⌜ r ≡ soundProfile mode list partial ⌝ }
+{
+    if mode == 0 {
+        if list != 0 {
+            return false;
+        }
+        return partial == 0;
+    }
+    if 3 < mode {
+        return false;
+    }
+    partial <= 1
+}
+
+fn is_sound_participant(book: &[u8], p: usize) -> bool
+    requires { ⌜ (length (now book) ≡ bookLength) × (p < 32) ⌝ }
+    ensures { λ r. ⌜ r ≡ soundParticipant (state (now (book .entry))) p ⌝ }
+{
+    let mode = book::get(book, MODES, p);
+    let waiting = book::get(book, WAITING_MODES, p);
+    if !is_sound_profile(
+        mode,
+        book::get(book, LISTS, p),
+        book::get(book, PARTIALS, p),
+    ) {
+        return false;
+    }
+    if !is_sound_profile(
+        waiting,
+        book::get(book, WAITING_LISTS, p),
+        book::get(book, WAITING_PARTIALS, p),
+    ) {
+        return false;
+    }
+    if mode != 0 {
+        return true;
+    }
+    waiting == 0
+}
+
+pub fn are_sound_participants(book: &[u8]) -> bool
+    requires { ⌜ length (now book) ≡ bookLength ⌝ }
+    ensures { λ r. ⌜ r ≡ all (soundParticipant (state (now (book .entry)))) 32 0 ⌝ }
+{
+    let mut p: usize = 0;
+    while p < 32 {
+        if !is_sound_participant(book, p) {
+            return false;
+        }
+        p += 1;
+    }
+    true
+}
+
+fn is_sound_basket(book: &[u8], b: usize) -> bool
+    requires { ⌜ (length (now book) ≡ bookLength) × (b < 16) ⌝ }
+    ensures { λ r. ⌜ r ≡ soundBasket (state (now (book .entry))) b ⌝ }
+{
+    let age = book::get(book, AGES, b);
+    if book::get(book, MAPS, b) == 0 {
+        return age == 0;
+    }
+    age <= 255
+}
+
+pub fn are_sound_baskets(book: &[u8]) -> bool
+    requires { ⌜ length (now book) ≡ bookLength ⌝ }
+    ensures { λ r. ⌜ r ≡ all (soundBasket (state (now (book .entry)))) 16 0 ⌝ }
+{
+    let mut b: usize = 0;
+    while b < 16 {
+        if !is_sound_basket(book, b) {
+            return false;
+        }
+        b += 1;
+    }
+    true
+}
+
+// The spare rows hold nothing.
+pub fn are_sound_spares(book: &[u8]) -> bool
+    requires { ⌜ length (now book) ≡ bookLength ⌝ }
+    ensures { λ r. ⌜ r ≡ all (isSpare (state (now (book .entry)))) 589 0 ⌝ }
+{
+    let mut k: usize = 0;
+    while k < 589 {
+        if !is_zero(book, SPARES, k) {
+            return false;
+        }
+        k += 1;
+    }
+    true
+}
+
+// Are a giver and a taker set up, and not the same?
+pub fn are_sound_parties(book: &[u8], giver: u64, taker: u64) -> bool
+    requires { ⌜ length (now book) ≡ bookLength ⌝ }
+    ensures { λ r. ⌜ r ≡ soundParties (state (now (book .entry))) giver taker ⌝ }
+{
+    if 32 <= giver {
+        return false;
+    }
+    if 32 <= taker {
+        return false;
+    }
+    if book::get(book, MODES, giver as usize) == 0 {
+        return false;
+    }
+    if book::get(book, MODES, taker as usize) == 0 {
+        return false;
+    }
+    giver != taker
+}
+
+// Is a basket set up?
+pub fn is_basket_named(book: &[u8], b: u64) -> bool
+    requires { ⌜ length (now book) ≡ bookLength ⌝ }
+    ensures { λ r. ⌜ r ≡ basketNamed (state (now (book .entry))) b ⌝ }
+{
+    if 16 <= b {
+        return false;
+    }
+    book::get(book, MAPS, b as usize) != 0
+}

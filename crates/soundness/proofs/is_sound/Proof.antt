@@ -1,0 +1,39 @@
+-- `soundness::is_sound` meets its contract.
+-- Assumes nothing.
+use Rattle.soundness.proofs.Ways.{first, after}
+use Rattle.rules.specs.Sound.{sound}
+use borrow.Author.Needs.{needs}
+use Rattle.soundness.proofs.is_sound.Statement.{statement}
+use Rattle.soundness.proofs.is_sound.Tie as tie
+
+is-set-up-sound-requires : tie.Need-is-set-up-sound-requires
+is-set-up-sound-requires c κs = search needs
+
+returns : tie.Need-returns
+unfolding sound
+returns c = first (c .before .is-set-up-sound .ensures) _ (c .if1 .taken)
+
+are-requests-sound-requires : tie.Need-are-requests-sound-requires
+are-requests-sound-requires c κs = search needs
+
+returns-2 : tie.Need-returns-2
+unfolding sound
+returns-2 c = after (c .before .before .before .is-set-up-sound .ensures) (c .before .before .if1 .left) (first (c .before .are-requests-sound .ensures) _ (c .if2 .taken))
+
+are-exposures-sound-requires : tie.Need-are-exposures-sound-requires
+are-exposures-sound-requires c κs = search needs
+
+returns-3 : tie.Need-returns-3
+unfolding sound
+returns-3 c = after (c .before .before .before .before .is-set-up-sound .ensures) (c .before .before .before .if1 .left) (after (c .before .before .are-requests-sound .ensures) (c .before .if2 .left) (c .are-exposures-sound .ensures))
+
+pub is-sound-spec : {M : Type 1} → statement M
+is-sound-spec =
+    tie.close
+    (tie.spec
+    is-set-up-sound-requires
+    returns
+    are-requests-sound-requires
+    returns-2
+    are-exposures-sound-requires
+    returns-3)
