@@ -1,0 +1,99 @@
+-- What the ranges of a record are worth to the functions that take it.
+-- Assumes nothing.
+use mathlib.Core.Path.{_≡_}
+use mathlib.Core.Bool.{true}
+use mathlib.Core.List.{List}
+use Prim.Native.Nat.{ℕ, _≤_, _<_}
+use native.Mathlib.Omega.{arith}
+use lib.Dec.{leb}
+use lib.ListN.{length, getD}
+use borrow.Author.Tests.{leb-true}
+use Rattle.laws.proofs.Cases.{and-right}
+use Rattle.laws.proofs.Least.{all-at}
+use Rattle.book.specs.Layout.{bookLength, accounts, positions}
+use Rattle.book.specs.State.{state}
+use Rattle.book.proofs.Images.{state-fits}
+use Rattle.records.proofs.Ranges.{legalAt}
+use Rattle.records.specs.Kinds.{kinds, fieldOf}
+use Rattle.records.specs.Writing.{areLegal}
+
+-- a number of a record is at most the greatest of its field
+pub field-le : (k j : ℕ) (r : List ℕ) → areLegal k r ≡ true → j < 8 → getD r j 0 ≤ fieldOf k j .greatest
+field-le k j r h l =
+    leb-true (getD r j 0) (fieldOf k j .greatest)
+    (and-right (leb (fieldOf k j .least) (getD r j 0)) (leb (getD r j 0) (fieldOf k j .greatest))
+    (all-at (legalAt k r) 8 0 h j (omega arith) (omega arith)))
+
+-- the fields of each kind
+pub record OpeningIn (r : List ℕ) : Type 0 where
+  pub day : getD r 0 0 ≤ 4294967295
+  pub tolerance : getD r 1 0 ≤ 100000000
+
+pub record PriceIn (r : List ℕ) : Type 0 where
+  pub security : getD r 0 0 ≤ 63
+  pub lot : getD r 1 0 ≤ 1000000
+  pub price : getD r 2 0 ≤ 3000000
+  pub haircut : getD r 3 0 ≤ 9999
+  pub quote : getD r 4 0 ≤ 4294967295
+
+pub record ParticipantIn (r : List ℕ) : Type 0 where
+  pub participant : getD r 0 0 ≤ 31
+  pub mode : getD r 1 0 ≤ 2
+  pub givers : getD r 2 0 ≤ 4294967295
+  pub partial : getD r 3 0 ≤ 1
+
+pub record BasketIn (r : List ℕ) : Type 0 where
+  pub basket : getD r 0 0 ≤ 15
+  pub securities : getD r 1 0 ≤ 18446744073709551615
+  pub age : getD r 2 0 ≤ 255
+
+pub record AccountIn (r : List ℕ) : Type 0 where
+  pub participant : getD r 0 0 ≤ 31
+  pub security : getD r 1 0 ≤ 63
+  pub nominal : getD r 2 0 ≤ 500000000
+
+module _ (r : List ℕ) where
+  pub opening-in : areLegal 0 r ≡ true → OpeningIn r
+  unfolding kinds
+  opening-in h = record { day = field-le 0 0 r h (omega arith); tolerance = field-le 0 1 r h (omega arith) }
+
+  pub price-in : areLegal 1 r ≡ true → PriceIn r
+  unfolding kinds
+  price-in h =
+      record {
+        security = field-le 1 0 r h (omega arith);
+        lot = field-le 1 1 r h (omega arith);
+        price = field-le 1 2 r h (omega arith);
+        haircut = field-le 1 3 r h (omega arith);
+        quote = field-le 1 4 r h (omega arith);
+      }
+
+  pub participant-in : areLegal 2 r ≡ true → ParticipantIn r
+  unfolding kinds
+  participant-in h =
+      record {
+        participant = field-le 2 0 r h (omega arith);
+        mode = field-le 2 1 r h (omega arith);
+        givers = field-le 2 2 r h (omega arith);
+        partial = field-le 2 3 r h (omega arith);
+      }
+
+  pub basket-in : areLegal 3 r ≡ true → BasketIn r
+  unfolding kinds
+  basket-in h = record { basket = field-le 3 0 r h (omega arith); securities = field-le 3 1 r h (omega arith); age = field-le 3 2 r h (omega arith) }
+
+  pub deposit-in : areLegal 4 r ≡ true → AccountIn r
+  unfolding kinds
+  deposit-in h = record { participant = field-le 4 0 r h (omega arith); security = field-le 4 1 r h (omega arith); nominal = field-le 4 2 r h (omega arith) }
+
+  pub withdrawal-in : areLegal 5 r ≡ true → AccountIn r
+  unfolding kinds
+  withdrawal-in h = record { participant = field-le 5 0 r h (omega arith); security = field-le 5 1 r h (omega arith); nominal = field-le 5 2 r h (omega arith) }
+
+-- a number of an account or a position fits its four bytes
+module _ (b : List ℕ) (long : length b ≡ bookLength) (small : (i : ℕ) → getD b i 0 < 256) where
+  pub account-small : (k : ℕ) → k < 2048 → state b accounts k < 4294967296
+  account-small k h = state-fits b long small .fits accounts k h
+
+  pub position-small : (k : ℕ) → k < 4096 → state b positions k < 4294967296
+  position-small k h = state-fits b long small .fits positions k h
