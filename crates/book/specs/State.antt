@@ -1,4 +1,4 @@
--- The book as a state: a number for each row of each table. Bytes are spoken of here and nowhere above.
+-- The book as a state: a number for each row of each table. The steps and codes above speak of numbers; only the call and the reads as a whole speak of bytes again.
 -- Assumes nothing.
 use mathlib.Core.Bool.{Bool, _&&_, cond}
 use mathlib.Core.Path.{_≡_}

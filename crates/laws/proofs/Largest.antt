@@ -1,4 +1,4 @@
--- The largest number at which a test holds: what it is, and a search that halves an interval, for any test that, once it fails, fails above.
+-- The largest number at which a test holds: what it is, and how it is told by an interval, for any test that, once it fails, fails above.
 -- Assumes nothing.
 use mathlib.Core.Path.{_≡_, refl, sym, ap, _∙_}
 use mathlib.Core.Bool.{Bool, true, false}
@@ -93,23 +93,10 @@ pub record Between (t : ℕ → Bool) (n lo hi : ℕ) : Type 0 where
   pub low : (lo ≡ 0) ⊎ (t lo ≡ true)
   pub high : hi ≤ n → t hi ≡ false
 
--- the middle of an interval, as the code computes it
-abbrev pub mid : ℕ → ℕ → ℕ
-mid lo hi = lo + (hi - lo) / 2
-
 module _ (t : ℕ → Bool) (n : ℕ) where
-  pub between-start : Between t n 0 (n + 1)
-  between-start = record { apart = omega arith; within = omega arith; low = inl refl; high = λ h. absurd (omega arith) }
-
   -- the interval is one number: the answer
   pub between-end : (lo hi : ℕ) → Falling t → Between t n lo hi → hi ≤ lo + 1 → lo ≡ largest t n
   unfolding Falling
   between-end lo hi f b h =
       largest-unique t n lo (omega (arith, b .apart, b .within)) (b .low)
       (λ j l m. f hi j (omega (arith, b .apart)) (b .high (omega (arith, b .apart))))
-
-  pub between-up : (lo hi : ℕ) → 1 < hi - lo → Between t n lo hi → t (mid lo hi) ≡ true → Between t n (mid lo hi) hi
-  between-up lo hi g b h = record { apart = omega arith; within = b .within; low = inr h; high = b .high }
-
-  pub between-down : (lo hi : ℕ) → 1 < hi - lo → Between t n lo hi → t (mid lo hi) ≡ false → Between t n lo (mid lo hi)
-  between-down lo hi g b h = record { apart = omega arith; within = omega arith; low = b .low; high = λ _. h }

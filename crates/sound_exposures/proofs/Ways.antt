@@ -2,33 +2,23 @@
 -- Assumes nothing.
 use mathlib.Core.Path.{_≡_, refl, sym, ap, _∙_}
 use mathlib.Core.Bool.{Bool, true, false, not, _&&_, _||_, cond, and-false, and-true}
-use Prim.Native.Nat.{ℕ, zero, suc, _+_, _*_, _-_, _%_, _≤_, _<_}
+use Prim.Native.Nat.{ℕ, _+_, _*_, _-_, _%_, _≤_, _<_}
 use native.Mathlib.Nat.{sub-zero}
 use native.Mathlib.Omega.{arith}
 use lib.Dec.{eqb, leb}
 use borrow.Author.Tests.{eq-eqb, ne-eqb, not-true, not-false}
 use Rattle.laws.specs.Search.{all}
-use Rattle.book.specs.Layout.{rowsOf, lots, useds, exposureGivers, exposureTakers, exposureBaskets, exposureClosings, exposures, positions}
+use Rattle.book.specs.Layout.{lots, useds, exposureGivers, exposureTakers, exposureBaskets, exposureClosings, exposures, positions}
 use Rattle.book.specs.State.{State}
 use Rattle.rules.specs.Sound.{openOrNone, soundParties, basketNamed, alike, blank, soundExposure, otherKey, distinctKey, soundPosition}
+use Rattle.laws.specs.Filled.{filled}
 use Rattle.sound_setup.specs.Rows.{InRows}
+use Rattle.sound_setup.proofs.InRows.{in-rows}
 
--- the tables of an exposure have 64 rows
-rows-of : (k : ℕ) → k < 5 → rowsOf (exposureGivers + k) ≡ 64
-rows-of zero h = refl
-rows-of (suc zero) h = refl
-rows-of (suc (suc zero)) h = refl
-rows-of (suc (suc (suc zero))) h = refl
-rows-of (suc (suc (suc (suc zero)))) h = refl
-rows-of (suc (suc (suc (suc (suc k))))) h = absurd (omega arith)
-
-in-table : (n e f : ℕ) → n ≤ 5 → e < 64 → exposureGivers ≤ f → f < exposureGivers + n → e < rowsOf f
-in-table n e f h l a b =
-    let k : f ≡ exposureGivers + (f - exposureGivers) = omega arith in
-    rw (ap rowsOf k ∙ rows-of (f - exposureGivers) (omega arith)) l
-
+-- the five tables of an exposure from the givers on have 64 rows
 pub in-exposures : (n e : ℕ) → n ≤ 5 → e < 64 → InRows n exposureGivers e
-in-exposures n e h l = record { tables = omega arith; row = λ f a b. in-table n e f h l a b }
+unfolding filled
+in-exposures n e h l = in-rows 64 exposureGivers 5 refl (omega arith) n exposureGivers e (omega arith) (omega arith) l
 
 module _ (s : State) (e : ℕ) {u : ℕ} (q : u ≡ s useds e) where
   pub unused : {b : Bool} → u ≡ 0 → b ≡ blank s 5 exposureGivers e → b ≡ soundExposure s e

@@ -9,37 +9,18 @@ use lib.Dec.{eqb, leb, ltb}
 use borrow.Author.Tests.{eq-eqb, ne-eqb, le-leb, lt-leb, lt-ltb, le-ltb, not-true, not-false}
 use Rattle.laws.specs.Search.{all}
 use Rattle.calendar.specs.Target.{openDay}
-use Rattle.book.specs.Layout.{rowsOf, nextNumber, tolerance, numbers, kinds, sides, givers, takers, objects, amounts, settlements, closings, settleds, partners, pairPartials, cancels, ends, useds, exposureGivers, exposureTakers, exposureBaskets, exposureClosings}
+use Rattle.book.specs.Layout.{nextNumber, tolerance, numbers, kinds, sides, givers, takers, objects, amounts, settlements, closings, settleds, partners, pairPartials, cancels, ends, useds, exposureGivers, exposureTakers, exposureBaskets, exposureClosings}
 use Rattle.book.specs.State.{State}
 use Rattle.rules.specs.Requests.{hasKey, exposureWith, exposureOfFop, partnerOf}
 use Rattle.rules.specs.Sound.{between, openOrNone, soundParties, basketNamed, returnNames, soundFop, soundReturn, soundKind, soundMarks, soundFields, alike, blank, marksAlike, soundPair, soundPaired, soundUnpaired, soundRow, differs, distinctNumber}
+use Rattle.laws.specs.Filled.{filled}
 use Rattle.sound_setup.specs.Rows.{InRows}
+use Rattle.sound_setup.proofs.InRows.{in-rows}
 
--- the tables of a request have 256 rows
-rows-of : (k : ℕ) → k < 14 → rowsOf (kinds + k) ≡ 256
-rows-of zero h = refl
-rows-of (suc zero) h = refl
-rows-of (suc (suc zero)) h = refl
-rows-of (suc (suc (suc zero))) h = refl
-rows-of (suc (suc (suc (suc zero)))) h = refl
-rows-of (suc (suc (suc (suc (suc zero))))) h = refl
-rows-of (suc (suc (suc (suc (suc (suc zero)))))) h = refl
-rows-of (suc (suc (suc (suc (suc (suc (suc zero))))))) h = refl
-rows-of (suc (suc (suc (suc (suc (suc (suc (suc zero)))))))) h = refl
-rows-of (suc (suc (suc (suc (suc (suc (suc (suc (suc zero))))))))) h = refl
-rows-of (suc (suc (suc (suc (suc (suc (suc (suc (suc (suc zero)))))))))) h = refl
-rows-of (suc (suc (suc (suc (suc (suc (suc (suc (suc (suc (suc zero))))))))))) h = refl
-rows-of (suc (suc (suc (suc (suc (suc (suc (suc (suc (suc (suc (suc zero)))))))))))) h = refl
-rows-of (suc (suc (suc (suc (suc (suc (suc (suc (suc (suc (suc (suc (suc zero))))))))))))) h = refl
-rows-of (suc (suc (suc (suc (suc (suc (suc (suc (suc (suc (suc (suc (suc (suc k)))))))))))))) h = absurd (omega arith)
-
-in-table : (n from i f : ℕ) → kinds ≤ from → from + n ≤ kinds + 14 → i < 256 → from ≤ f → f < from + n → i < rowsOf f
-in-table n from i f g h l a b =
-    let k : f ≡ kinds + (f - kinds) = omega arith in
-    rw (ap rowsOf k ∙ rows-of (f - kinds) (omega arith)) l
-
+-- the fourteen tables of a request from the kinds on have 256 rows
 pub in-requests : (n from i : ℕ) → kinds ≤ from → from + n ≤ kinds + 14 → i < 256 → InRows n from i
-in-requests n from i g h l = record { tables = omega arith; row = λ f a b. in-table n from i f g h l a b }
+unfolding filled
+in-requests n from i g h l = in-rows 256 kinds 14 refl (omega arith) n from i g h l
 
 -- the exposure that a return names
 module _ (s : State) (i : ℕ) {o : ℕ} (oq : o ≡ s objects i) where
