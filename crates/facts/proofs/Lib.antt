@@ -1,0 +1,5 @@
+pub mod Facts
+pub mod Keeps
+pub mod Rows
+pub mod Stock
+pub mod Truth
