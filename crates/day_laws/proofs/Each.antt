@@ -11,8 +11,9 @@ use native.Mathlib.Omega.{arith}
 use lib.Dec.{eqb, ltb}
 use borrow.Author.Tests.{eqb-true, eq-eqb, ne-eqb, lt-ltb, le-ltb}
 use Rattle.laws.proofs.Cases.{either}
-use Rattle.book.specs.Layout.{widthOf}
+use Rattle.book.specs.Layout.{rowsOf, widthOf, tableCount}
 use Rattle.book.specs.State.{State, Fits, put}
+use Rattle.book.proofs.Images.{put-fits}
 use Rattle.rules.specs.DayChange.{onEach}
 
 -- the numbers whose turn has been, among those that pass
@@ -96,6 +97,15 @@ stored-row new (f ∷ fs) t i g j =
     (either (eqb j i)))
     (λ (e : eqb g f ≡ false). rw e rest)
     (either (eqb g f))
+
+-- numbers that fit the tables that they are stored into
+abbrev pub Storable : List ℕ → (ℕ → ℕ) → ℕ → Type 0
+Storable [] new i = 0 ≤ i
+Storable (f ∷ fs) new i = ((f < tableCount) × (i < rowsOf f) × (new f < 256 ^ widthOf f)) × Storable fs new i
+
+pub stored-fits : (fs : List ℕ) (new : ℕ → ℕ) (t : State) (i : ℕ) → Fits t → Storable fs new i → Fits (stored t fs new i)
+stored-fits [] new t i fit h = fit
+stored-fits (f ∷ fs) new t i fit h = put-fits (stored t fs new i) f i (new f) (stored-fits fs new t i fit (h .1)) (h .0 .0) (h .0 .1) (h .0 .2)
 
 -- a number that is not n is below n + 1 where it is below n
 below-next : (i n : ℕ) → (i ≡ n → ⊥) → ltb i n ≡ ltb i (suc n)

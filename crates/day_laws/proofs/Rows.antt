@@ -19,7 +19,7 @@ use Rattle.rules.specs.Sound.{soundRow, differs, distinctNumber, holding}
 use Rattle.facts.proofs.Facts.{Sound, all-of, below}
 use Rattle.facts.proofs.Keeps.{Good}
 use Rattle.facts.proofs.Rows.{Pair, unused-blank, used-paired}
-use Rattle.day_laws.proofs.Each.{passed, remade, remade-not, cleared-fits, among, stored, stored-row, each-remade}
+use Rattle.day_laws.proofs.Each.{passed, remade, remade-not, cleared-fits, among, stored, stored-row, each-ahead, each-remade}
 
 -- the tables of a request, the last first
 abbrev requestTables : List ℕ
@@ -128,7 +128,7 @@ module _ (s : State) (g : Good s) (day : ℕ) where
 
   -- while rows are dropped, the rows to come are as they were, and are told by the same test
   pub row-ahead : (n f i : ℕ) → n ≤ i → onEach (isDropped s day) blanked n s f i ≡ s f i
-  row-ahead n f i l = ap (λ (t : State). t f i) (rows-turned s day n) ∙ remade-not (among requestTables) (λ row f. 0) s (passed (isDropped s day) n) f i (rw (le-ltb i n l))
+  row-ahead n f i l = each-ahead (among requestTables) (λ row f. 0) s (isDropped s day) blanked (stored-row (λ row f. 0) requestTables) n f i l
 
   pub dropped-ahead : (n i : ℕ) → n ≤ i → isDropped (onEach (isDropped s day) blanked n s) day i ≡ isDropped s day i
   dropped-ahead n i l = let no : ltb i n ≡ false = le-ltb i n l in rw (rows-turned s day n, no)
