@@ -22,7 +22,7 @@ use Rattle.facts.proofs.Facts.{Sound, all-of, below}
 use Rattle.facts.proofs.Keeps.{Good}
 use Rattle.facts.proofs.Rows.{Kind, fop, return, Stocked, used-fields, no-exposure-sound, position-facts}
 use Rattle.facts.proofs.Truth.{split, join}
-use Rattle.day_laws.proofs.Each.{passed, remade, cleared-fits, among, stored-row, each-ahead, each-remade}
+use Rattle.day_laws.proofs.Remade.{remade, cleared-fits, among, stored-row, passed, row-ahead, turns-remade}
 
 -- tests that agree on a range have the same least number
 pub least-same : (t u : ℕ → Bool) (n i : ℕ) → ((j : ℕ) → i ≤ j → j < i + n → t j ≡ u j) → least t n i ≡ least u n i
@@ -49,7 +49,7 @@ abbrev pub freed : State → (ℕ → Bool) → State
 freed s done = remade (among freedTables) (λ row f. 0) done s
 
 pub exposures-turned : (s : State) (n : ℕ) → onEach (isIdle s) exposureFreed n s ≡ freed s (passed (isIdle s) n)
-exposures-turned s n = each-remade (among freedTables) (λ row f. 0) s (isIdle s) exposureFreed (stored-row (λ row f. 0) freedTables) n
+exposures-turned s n = turns-remade (among freedTables) (λ row f. 0) (isIdle s) exposureFreed (stored-row (λ row f. 0) freedTables) s n
 
 -- what idle says
 module _ (s : State) (e : ℕ) (idle : isIdle s e ≡ true) where
@@ -198,7 +198,7 @@ module _ (s : State) (g : Good s) (n : ℕ) where
 
   -- exposures to come are as they were, and are told by the same test
   pub exposure-ahead : (f e : ℕ) → n ≤ e → onEach (isIdle s) exposureFreed n s f e ≡ s f e
-  exposure-ahead f e l = each-ahead (among freedTables) (λ row f. 0) s (isIdle s) exposureFreed (stored-row (λ row f. 0) freedTables) n f e l
+  exposure-ahead f e l = row-ahead (among freedTables) (λ row f. 0) (isIdle s) exposureFreed (stored-row (λ row f. 0) freedTables) s n f e l
 
   pub idle-ahead : (e : ℕ) → n ≤ e → isIdle (onEach (isIdle s) exposureFreed n s) e ≡ isIdle s e
   idle-ahead e l = let no : ltb e n ≡ false = le-ltb e n l in rw (exposures-turned s n, no)

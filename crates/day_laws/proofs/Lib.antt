@@ -1,4 +1,6 @@
+pub mod Closed
 pub mod Each
 pub mod Freed
 pub mod Profiles
+pub mod Remade
 pub mod Rows

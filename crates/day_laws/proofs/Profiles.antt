@@ -25,7 +25,8 @@ use Rattle.facts.proofs.Facts.{Sound}
 use Rattle.facts.proofs.Keeps.{Good}
 use Rattle.facts.proofs.Rows.{Head, head-facts, facts-head}
 use Rattle.facts.proofs.Truth.{split, join}
-use Rattle.day_laws.proofs.Each.{passed, remade, among, stored-row, stored-fits, each-keeps, each-ahead, each-remade}
+use Rattle.day_laws.proofs.Each.{each-keeps}
+use Rattle.day_laws.proofs.Remade.{remade, among, stored-row, stored-fits, passed, row-ahead, turns-remade}
 
 -- the least number found passes the test
 pub least-holds : (t : ℕ → Bool) (n i : ℕ) → least t n i < i + n → t (least t n i) ≡ true
@@ -100,7 +101,7 @@ abbrev pub changed : State → (ℕ → Bool) → State
 changed s done = remade (among profileTables) inForce done s
 
 pub profiles-turned : (s : State) (n : ℕ) → onEach (waits s) changeTakesEffect n s ≡ changed s (passed (waits s) n)
-profiles-turned s n = each-remade (among profileTables) inForce s (waits s) changeTakesEffect (stored-row inForce profileTables) n
+profiles-turned s n = turns-remade (among profileTables) inForce (waits s) changeTakesEffect (stored-row inForce profileTables) s n
 
 module _ (s : State) (h : Sound s) (done : ℕ → Bool) (only : (p : ℕ) → done p ≡ true → (p < 32) × (waits s p ≡ true)) where
   -- whoever has a profile waiting is set up
@@ -177,4 +178,4 @@ profiles-changed-holding s p i = rw (profiles-turned s 32)
 
 -- while profiles change, those to come are as they were, and are told by the same test
 pub profile-ahead : (s : State) (n f p : ℕ) → n ≤ p → onEach (waits s) changeTakesEffect n s f p ≡ s f p
-profile-ahead s n f p l = each-ahead (among profileTables) inForce s (waits s) changeTakesEffect (stored-row inForce profileTables) n f p l
+profile-ahead s n f p l = row-ahead (among profileTables) inForce (waits s) changeTakesEffect (stored-row inForce profileTables) s n f p l

@@ -19,7 +19,7 @@ use Rattle.rules.specs.Sound.{soundRow, differs, distinctNumber, holding}
 use Rattle.facts.proofs.Facts.{Sound, all-of, below}
 use Rattle.facts.proofs.Keeps.{Good}
 use Rattle.facts.proofs.Rows.{Pair, unused-blank, used-paired}
-use Rattle.day_laws.proofs.Each.{passed, remade, remade-not, cleared-fits, among, stored, stored-row, each-ahead, each-remade}
+use Rattle.day_laws.proofs.Remade.{remade, cleared-fits, among, stored-row, passed, row-ahead, turns-remade}
 
 -- the tables of a request, the last first
 abbrev requestTables : List ℕ
@@ -32,7 +32,7 @@ without s done = remade (among requestTables) (λ row f. 0) done s
 
 -- n turns: the rows passed are gone
 pub rows-turned : (s : State) (day n : ℕ) → onEach (isDropped s day) blanked n s ≡ without s (passed (isDropped s day) n)
-rows-turned s day n = each-remade (among requestTables) (λ row f. 0) s (isDropped s day) blanked (stored-row (λ row f. 0) requestTables) n
+rows-turned s day n = turns-remade (among requestTables) (λ row f. 0) (isDropped s day) blanked (stored-row (λ row f. 0) requestTables) s n
 
 -- a row that is paired is used, and so is its partner
 module _ (s : State) (h : Sound s) (i : ℕ) (l : i < 256) where
@@ -127,8 +127,8 @@ module _ (s : State) (g : Good s) (day : ℕ) where
   rows-dropped-holding p i = rw (rows-turned s day 256)
 
   -- while rows are dropped, the rows to come are as they were, and are told by the same test
-  pub row-ahead : (n f i : ℕ) → n ≤ i → onEach (isDropped s day) blanked n s f i ≡ s f i
-  row-ahead n f i l = each-ahead (among requestTables) (λ row f. 0) s (isDropped s day) blanked (stored-row (λ row f. 0) requestTables) n f i l
+  pub request-ahead : (n f i : ℕ) → n ≤ i → onEach (isDropped s day) blanked n s f i ≡ s f i
+  request-ahead n f i l = row-ahead (among requestTables) (λ row f. 0) (isDropped s day) blanked (stored-row (λ row f. 0) requestTables) s n f i l
 
   pub dropped-ahead : (n i : ℕ) → n ≤ i → isDropped (onEach (isDropped s day) blanked n s) day i ≡ isDropped s day i
   dropped-ahead n i l = let no : ltb i n ≡ false = le-ltb i n l in rw (rows-turned s day n, no)
