@@ -1,19 +1,18 @@
 -- The new day and the profiles that come into force: the day is open, and whoever is set up stays so.
 -- Assumes nothing.
-use mathlib.Core.Path.{_≡_, refl, sym, ap, _∙_}
-use mathlib.Core.Bool.{Bool, true, false, not, _&&_, _||_, cond}
+use mathlib.Core.Path.{_≡_}
+use mathlib.Core.Bool.{Bool, true, false, not, _||_, cond}
 use mathlib.Core.List.{List, [], _∷_}
 use mathlib.Core.Logic.{⊎-elim}
-use Prim.Native.Nat.{ℕ, zero, suc, _+_, _-_, _≤_, _<_}
+use Prim.Native.Nat.{ℕ, _+_, _-_, _≤_, _<_}
 use native.Mathlib.Omega.{arith}
 use lib.Dec.{eqb, ltb}
-use borrow.Author.Tests.{eqb-true, eqb-false, eq-eqb, ne-eqb, ltb-true, ltb-false, not-true}
-use Rattle.laws.specs.Search.{all, least}
+use borrow.Author.Tests.{ltb-true, ltb-false, not-true}
+use Rattle.laws.specs.Search.{all}
 use Rattle.laws.proofs.Cases.{either, clash, or-cases}
-use Rattle.laws.proofs.Least.{least-hit, least-miss, least-none}
 use Rattle.calendar.specs.Target.{openDay, nextOpenDay, lastDay}
 use Rattle.calendar.proofs.OpenDays.{open-within}
-use Rattle.book.specs.Layout.{today, tolerance, nextNumber, modes, lists, partials, waitingModes, waitingLists, waitingPartials, givers, takers, exposureGivers, exposureTakers}
+use Rattle.book.specs.Layout.{today, modes, lists, partials, waitingModes, waitingLists, waitingPartials, givers, takers, exposureGivers, exposureTakers}
 use Rattle.book.specs.State.{State, Fits, put}
 use Rattle.book.proofs.Images.{put-fits}
 use Rattle.rules.specs.Codes.{nextDayRules}
@@ -23,20 +22,11 @@ use Rattle.rules.specs.Sound.{soundProfile, soundParticipant, soundRow, soundEx
 use Rattle.rules.specs.Stock.{participantSetUp}
 use Rattle.facts.proofs.Facts.{Sound}
 use Rattle.facts.proofs.Keeps.{Good}
-use Rattle.facts.proofs.Rows.{Head, head-facts, facts-head}
-use Rattle.facts.proofs.Truth.{split, join}
+use Rattle.facts.proofs.Rows.{head-facts, facts-head}
+use Rattle.facts.proofs.Truth.{split}
 use Rattle.day_laws.proofs.Each.{each-keeps}
-use Rattle.day_laws.proofs.Remade.{remade, among, stored-row, stored-fits, passed, row-ahead, turns-remade}
-
--- the least number found passes the test
-pub least-holds : (t : ℕ → Bool) (n i : ℕ) → least t n i < i + n → t (least t n i) ≡ true
-least-holds t zero i l = absurd (omega (arith, least-none t i))
-least-holds t (suc n) i l =
-    let later = least-holds t n (suc i) in
-    ⊎-elim
-    (λ (e : t i ≡ true). rw (least-hit t n i e) e)
-    (λ (e : t i ≡ false). rw (least-miss t n i e) (later (omega (arith, least-miss t n i e))))
-    (either (t i))
+use Rattle.day_laws.proofs.Least.{least-holds}
+use Rattle.day_laws.proofs.Remade.{remade, among, stored-row, stored-fits, passed, row-ahead, turns-remade, tables-beside}
 
 -- an accepted next day is open
 module _ (s : State) (h : lowest (nextDayRules s) ≡ 0) where
@@ -86,7 +76,7 @@ module _ (s : State) (g : Good s) (day : ℕ) (o : openDay day ≡ true) where
       }
 
 -- the tables of a participant, the last first; and a row of them once the profile that waits is in force
-abbrev profileTables : List ℕ
+abbrev pub profileTables : List ℕ
 profileTables = waitingPartials ∷ waitingLists ∷ waitingModes ∷ partials ∷ lists ∷ modes ∷ []
 
 abbrev inForce : (ℕ → ℕ) → ℕ → ℕ
@@ -167,10 +157,14 @@ module _ (s : State) (g : Good s) (n : ℕ) (few : n ≤ 32) where
       let only : (p : ℕ) → done p ≡ true → (p < 32) × (waits s p ≡ true) = λ p e. let t = split (ltb p n ∷ waits s p ∷ []) e in (omega (arith, ltb-true p n (t .0)), t .1) in
       record { facts = rw (profiles-turned s n) (changed-sound s (g .facts) done only); fits = turned-fits }
 
--- the profiles changed: the book is good, and no participant's bonds move
+-- the profiles changed: the book is good, no other table changes, and no participant's bonds move
 pub profiles-changed-good : (s : State) → Good s → Good (profilesChanged s)
 unfolding profilesChanged
 profiles-changed-good s g = profiles-turned-good s g 32 (omega arith)
+
+pub profiles-changed-beside : (s : State) (f i : ℕ) → among profileTables f ≡ false → profilesChanged s f i ≡ s f i
+unfolding profilesChanged
+profiles-changed-beside s f i m = tables-beside (among profileTables) inForce (waits s) changeTakesEffect (stored-row inForce profileTables) s 32 f i m
 
 pub profiles-changed-holding : (s : State) (p i : ℕ) → holding (profilesChanged s) p i ≡ holding s p i
 unfolding profilesChanged holding

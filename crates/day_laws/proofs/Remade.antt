@@ -82,6 +82,7 @@ module _ (tables : ℕ → Bool) (new : (ℕ → ℕ) → ℕ → ℕ) (test : �
   only-own : (f i : ℕ) (t : State) (j : ℕ) → (i ≡ j → ⊥) → step t j f i ≡ t f i
   only-own f i t j d = own t j f i ∙ remade-not tables new (λ k. eqb k j) t f i (ne-eqb i j d)
 
+  -- the rows to come are as they were
   pub row-ahead : (n f i : ℕ) → n ≤ i → onEach test step n s f i ≡ s f i
   row-ahead n f i l = place-ahead test step s f i (only-own f i) n l
 
@@ -103,3 +104,7 @@ module _ (tables : ℕ → Bool) (new : (ℕ → ℕ) → ℕ → ℕ) (test : �
 
   pub turns-remade : (n : ℕ) → onEach test step n s ≡ remade tables new (passed test n) s
   turns-remade n = fun-ext (λ f. fun-ext (λ i. row-turned n f i))
+
+  -- every other table is as it was
+  pub tables-beside : (n f i : ℕ) → tables f ≡ false → onEach test step n s f i ≡ s f i
+  tables-beside n f i m = rw m at (row-turned n f i)
