@@ -1,5 +1,5 @@
 -- Exposures freed: an idle one, of amount 0 and with no row that belongs to it, leaves every row its exposure.
--- Assumes one-choice.
+-- Assumes nothing.
 use mathlib.Core.Path.{_≡_, refl, sym}
 use mathlib.Core.Bool.{Bool, true, false, not, _&&_, cond}
 use mathlib.Core.List.{List, [], _∷_}
@@ -19,7 +19,7 @@ use Rattle.rules.specs.Sound.{soundKind, soundPaired, soundRow, soundExposure, 
 use Rattle.facts.proofs.Facts.{Sound, all-of, below}
 use Rattle.facts.proofs.Keeps.{Good}
 use Rattle.facts.proofs.Rows.{Kind, fop, return, used-fields, no-exposure-sound, position-facts}
-use Rattle.facts.proofs.Truth.{split}
+use Rattle.facts.proofs.Truth.{Each, split}
 use Rattle.day_laws.proofs.Least.{least-same}
 use Rattle.day_laws.proofs.Remade.{remade, cleared-fits, among, stored-row, passed, row-ahead, turns-remade}
 
@@ -36,21 +36,23 @@ freedTables = exposureClosings ∷ exposureBaskets ∷ exposureTakers ∷ exposu
 abbrev pub freed : State → (ℕ → Bool) → State
 freed s done = remade (among freedTables) (λ row f. 0) done s
 
+-- n turns: the idle exposures passed are free
 pub exposures-turned : (s : State) (n : ℕ) → onEach (isIdle s) exposureFreed n s ≡ freed s (passed (isIdle s) n)
 exposures-turned s n = turns-remade (among freedTables) (λ row f. 0) (isIdle s) exposureFreed (stored-row (λ row f. 0) freedTables) s n
 
 -- what idle says
 module _ (s : State) (e : ℕ) (idle : isIdle s e ≡ true) where
+  clauses : Each (eqb (s useds e) 1 ∷ eqb (s exposures e) 0 ∷ all (λ i. not (belongs s e i)) 256 0 ∷ [])
+  clauses = split (eqb (s useds e) 1 ∷ eqb (s exposures e) 0 ∷ all (λ i. not (belongs s e i)) 256 0 ∷ []) idle
+
   pub idle-used : s useds e ≡ 1
-  idle-used = eqb-true (s useds e) 1 (split (eqb (s useds e) 1 ∷ eqb (s exposures e) 0 ∷ all (λ i. not (belongs s e i)) 256 0 ∷ []) idle .0)
+  idle-used = eqb-true (s useds e) 1 (clauses .0)
 
   pub idle-amount : s exposures e ≡ 0
-  idle-amount = eqb-true (s exposures e) 0 (split (eqb (s useds e) 1 ∷ eqb (s exposures e) 0 ∷ all (λ i. not (belongs s e i)) 256 0 ∷ []) idle .1 .0)
+  idle-amount = eqb-true (s exposures e) 0 (clauses .1 .0)
 
   pub idle-row : (i : ℕ) → i < 256 → belongs s e i ≡ false
-  idle-row i l =
-      not-true (belongs s e i)
-      (below (λ i. not (belongs s e i)) 256 (split (eqb (s useds e) 1 ∷ eqb (s exposures e) 0 ∷ all (λ i. not (belongs s e i)) 256 0 ∷ []) idle .1 .1) i l)
+  idle-row i l = not-true (belongs s e i) (below (λ i. not (belongs s e i)) 256 (clauses .1 .1) i l)
 
   -- "an exposure of amount 0 has no position"
   pub idle-position : Sound s → e < 64 → (i : ℕ) → i < 64 → s positions (64 * e + i) ≡ 0
@@ -73,6 +75,7 @@ module _ (s : State) (h : Sound s) (done : ℕ → Bool) (only : (e : ℕ) → d
       (λ (d : done e ≡ false). rw d)
       (either (done e))
 
+  -- so each row's clauses hold as before
   kind-kept : (i : ℕ) → i < 256 → isUsed s i ≡ true → soundKind (freed s done) i ≡ soundKind s i
   kind-kept i l u =
       ⊎-elim
@@ -121,6 +124,7 @@ module _ (s : State) (h : Sound s) (done : ℕ → Bool) (only : (e : ℕ) → d
       (λ (d : done e ≡ false). rw d (h .exposure e l))
       (either (done e))
 
+  -- keys stay distinct among the exposures left
   key-other : (e c : ℕ) → done e ≡ false → otherKey s e c ≡ true → otherKey (freed s done) e c ≡ true
   unfolding all
   key-other e c d k = ⊎-elim (λ (a : done c ≡ true). rw a) (λ (a : done c ≡ false). rw (d, a) k) (either (done c))
@@ -144,6 +148,7 @@ module _ (s : State) (h : Sound s) (done : ℕ → Bool) (only : (e : ℕ) → d
       (λ (d : done e ≡ false). rw d (h .position e i l m))
       (either (done e))
 
+  -- no bonds stood in what is freed
   freed-from : (p i e : ℕ) → e < 64 → i < 64 → positionFrom (freed s done) p i e ≡ positionFrom s p i e
   freed-from p i e l m =
       ⊎-elim
@@ -193,6 +198,7 @@ module _ (s : State) (n : ℕ) where
   idle-ahead e l = let no : ltb e n ≡ false = le-ltb e n l in rw (exposures-turned s n, no)
 
 module _ (s : State) (g : Good s) where
+  -- all 64 turns
   pub exposures-freed-good : Good (exposuresFreed s)
   unfolding exposuresFreed
   exposures-freed-good = exposures-turned-good s g 64

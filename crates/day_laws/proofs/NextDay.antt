@@ -4,6 +4,7 @@ use mathlib.Core.Path.{_≡_, refl, sym, _∙_}
 use mathlib.Core.Bool.{Bool, true, false, cond}
 use Prim.Native.Nat.{ℕ, _+_, _<_}
 use native.Mathlib.Omega.{arith}
+use lib.Dec.{eqb}
 use Rattle.calendar.specs.Target.{nextOpenDay}
 use Rattle.book.specs.Layout.{today, useds, exposureClosings, exposures}
 use Rattle.book.specs.State.{State, put}
@@ -16,8 +17,9 @@ use Rattle.facts.proofs.Keeps.{Good, Amounts, Keeps}
 use Rattle.day_laws.proofs.Closed.{Closing, exposures-closed, exposures-closed-amount}
 use Rattle.day_laws.proofs.Freed.{exposures-freed-good, exposures-freed-holding, exposures-freed-amount, exposures-freed-used}
 use Rattle.day_laws.proofs.Paper.{told-settled, told-returned, told-passed}
-use Rattle.day_laws.proofs.Profiles.{next-day-open, new-day-good, profiles-changed-good, profiles-changed-beside, profiles-changed-holding}
-use Rattle.day_laws.proofs.Rows.{rows-dropped-good, rows-dropped-beside, rows-dropped-holding}
+use Rattle.day_laws.proofs.Profiles.{next-day-open, new-day-good, profileTables, profiles-changed-good, profiles-changed-beside, profiles-changed-holding}
+use Rattle.day_laws.proofs.Remade.{among}
+use Rattle.day_laws.proofs.Rows.{requestTables, rows-dropped-good, rows-dropped-beside, rows-dropped-holding}
 
 module _ (s : State) (g : Good s) (h : lowest (nextDayRules s) ≡ 0) where
   abbrev day : ℕ
@@ -33,6 +35,7 @@ module _ (s : State) (g : Good s) (h : lowest (nextDayRules s) ≡ 0) where
   abbrev closed : State
   closed = exposuresClosed renewed day
 
+  -- each leaves a good book
   pub dropped-good : Good dropped
   dropped-good = rows-dropped-good s g day
 
@@ -46,6 +49,7 @@ module _ (s : State) (g : Good s) (h : lowest (nextDayRules s) ≡ 0) where
   unfolding dayChanged
   day-changed-good = exposures-freed-good closed (closing-kept .good)
 
+  -- no stage moves a participant's bonds
   renewed-holding : (p i : ℕ) → holding renewed p i ≡ holding s p i
   unfolding holding
   renewed-holding p i = profiles-changed-holding (put dropped today 0 day) p i ∙ rows-dropped-holding s day p i
@@ -54,16 +58,14 @@ module _ (s : State) (g : Good s) (h : lowest (nextDayRules s) ≡ 0) where
   unfolding dayChanged
   day-changed-holding p i m l = exposures-freed-holding closed (closing-kept .good) p i l ∙ closing-kept .held p i m l ∙ renewed-holding p i
 
-  -- until exposures are closed, each is as it was
+  -- until exposures are closed, they are as they were
+  renewed-beside : (f i : ℕ) → among profileTables f ≡ false → eqb f today ≡ false → among requestTables f ≡ false → renewed f i ≡ s f i
+  renewed-beside f i a b c = profiles-changed-beside (put dropped today 0 day) f i a ∙ rw b (rows-dropped-beside s day f i c)
+
   renewed-used : (e : ℕ) → renewed useds e ≡ s useds e
-  renewed-used e = profiles-changed-beside (put dropped today 0 day) useds e refl ∙ rows-dropped-beside s day useds e refl
+  renewed-used e = renewed-beside useds e refl refl refl
 
-  renewed-closing : (e : ℕ) → renewed exposureClosings e ≡ s exposureClosings e
-  renewed-closing e = profiles-changed-beside (put dropped today 0 day) exposureClosings e refl ∙ rows-dropped-beside s day exposureClosings e refl
-
-  renewed-amount : (e : ℕ) → renewed exposures e ≡ s exposures e
-  renewed-amount e = profiles-changed-beside (put dropped today 0 day) exposures e refl ∙ rows-dropped-beside s day exposures e refl
-
+  -- an exposure in use was in use, and has its amount unless it was closed
   pub day-changed-used : (e : ℕ) → dayChanged s useds e ≡ 1 → s useds e ≡ 1
   unfolding dayChanged
   day-changed-used e u = sym (renewed-used e) ∙ sym (closing-kept .used e) ∙ exposures-freed-used closed e u
@@ -71,13 +73,14 @@ module _ (s : State) (g : Good s) (h : lowest (nextDayRules s) ≡ 0) where
   pub day-changed-amount : (e : ℕ) → e < 64 → dayChanged s exposures e ≡ cond (isExposureClosed s day e) 0 (s exposures e)
   unfolding dayChanged
   day-changed-amount e l =
-      exposures-freed-amount closed e ∙ exposures-closed-amount renewed day e l ∙ rw (renewed-used e, renewed-closing e, renewed-amount e)
+      exposures-freed-amount closed e ∙ exposures-closed-amount renewed day e l ∙ rw (renewed-used e, renewed-beside exposureClosings e refl refl refl, renewed-beside exposures e refl refl refl)
 
   -- what an exposure has left and what was closed of it
   parts : (b : Bool) (x : ℕ) → cond b x 0 + cond b 0 x ≡ x
   parts true x = omega arith
   parts false x = omega arith
 
+  -- "S − R − C": what was closed has left the amount
   day-changed-amounts : (p : Paper) → Amounts s p → Amounts (dayChanged s) (allNoted p (closings12 s day 64))
   day-changed-amounts p a e l u =
       omega (
@@ -90,6 +93,7 @@ module _ (s : State) (g : Good s) (h : lowest (nextDayRules s) ≡ 0) where
         a e l (day-changed-used e u),
       )
 
+-- an accepted next day
 pub keeps-next-day : (s : State) → Good s → lowest (nextDayRules s) ≡ 0 → Keeps s (nextDay s)
 unfolding nextDay
 keeps-next-day s g h = record { good = day-changed-good s g h; bonds = day-changed-holding s g h; amounts = day-changed-amounts s g h }

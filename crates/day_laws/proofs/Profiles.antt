@@ -23,7 +23,7 @@ use Rattle.rules.specs.Stock.{participantSetUp}
 use Rattle.facts.proofs.Facts.{Sound}
 use Rattle.facts.proofs.Keeps.{Good}
 use Rattle.facts.proofs.Rows.{head-facts, facts-head}
-use Rattle.facts.proofs.Truth.{split}
+use Rattle.facts.proofs.Truth.{Each, split}
 use Rattle.day_laws.proofs.Each.{each-keeps}
 use Rattle.day_laws.proofs.Least.{least-holds}
 use Rattle.day_laws.proofs.Remade.{remade, among, stored-row, stored-fits, passed, row-ahead, turns-remade, tables-beside}
@@ -45,7 +45,7 @@ module _ (s : State) (h : lowest (nextDayRules s) ≡ 0) where
       let now = open-within (s today 0) (head-facts s (f .head) .open-today) in
       least-holds openDay (lastDay - s today 0) (s today 0 + 1) (omega (arith, next-day-within))
 
--- the book on another open day
+-- the book on another open day: nothing stored is compared with today
 module _ (s : State) (g : Good s) (day : ℕ) (o : openDay day ≡ true) where
   pub new-day-good : Good (put s today 0 day)
   unfolding all holding
@@ -90,15 +90,19 @@ waits s p = not (eqb (s waitingModes p) 0)
 abbrev pub changed : State → (ℕ → Bool) → State
 changed s done = remade (among profileTables) inForce done s
 
+-- n turns: the profiles that waited there are in force
 pub profiles-turned : (s : State) (n : ℕ) → onEach (waits s) changeTakesEffect n s ≡ changed s (passed (waits s) n)
 profiles-turned s n = turns-remade (among profileTables) inForce (waits s) changeTakesEffect (stored-row inForce profileTables) s n
 
 module _ (s : State) (h : Sound s) (done : ℕ → Bool) (only : (p : ℕ) → done p ≡ true → (p < 32) × (waits s p ≡ true)) where
+  -- a participant's three clauses: the profile in force, the one that waits, and that it waits only where one is in force
+  clauses : (p : ℕ) → p < 32 → Each (soundProfile (s modes p) (s lists p) (s partials p) ∷ soundProfile (s waitingModes p) (s waitingLists p) (s waitingPartials p) ∷ (participantSetUp s p || eqb (s waitingModes p) 0) ∷ [])
+  clauses p l = split (soundProfile (s modes p) (s lists p) (s partials p) ∷ soundProfile (s waitingModes p) (s waitingLists p) (s waitingPartials p) ∷ (participantSetUp s p || eqb (s waitingModes p) 0) ∷ []) (h .participant p l)
+
   -- whoever has a profile waiting is set up
   waiting-known : (p : ℕ) → p < 32 → waits s p ≡ true → participantSetUp s p ≡ true
   waiting-known p l w =
-      let t = split (soundProfile (s modes p) (s lists p) (s partials p) ∷ soundProfile (s waitingModes p) (s waitingLists p) (s waitingPartials p) ∷ (participantSetUp s p || eqb (s waitingModes p) 0) ∷ []) (h .participant p l) in
-      ⊎-elim (λ k. k) (λ k. clash k (not-true (eqb (s waitingModes p) 0) w)) (or-cases (participantSetUp s p) (eqb (s waitingModes p) 0) (t .1 .1))
+      ⊎-elim (λ k. k) (λ k. clash k (not-true (eqb (s waitingModes p) 0) w)) (or-cases (participantSetUp s p) (eqb (s waitingModes p) 0) (clauses p l .1 .1))
 
   -- the same participants are set up
   set-up-same : (p : ℕ) → participantSetUp (changed s done) p ≡ participantSetUp s p
@@ -111,13 +115,11 @@ module _ (s : State) (h : Sound s) (done : ℕ → Bool) (only : (p : ℕ) → d
   changed-participant : (p : ℕ) → p < 32 → soundParticipant (changed s done) p ≡ true
   changed-participant p l =
       ⊎-elim
-      (λ (e : done p ≡ true).
-      let w = only p e .1 in
-      let t = split (soundProfile (s modes p) (s lists p) (s partials p) ∷ soundProfile (s waitingModes p) (s waitingLists p) (s waitingPartials p) ∷ (participantSetUp s p || eqb (s waitingModes p) 0) ∷ []) (h .participant p l) in
-      rw (e, t .1 .0, w))
+      (λ (e : done p ≡ true). rw (e, clauses p l .1 .0, only p e .1))
       (λ (e : done p ≡ false). rw e (h .participant p l))
       (either (done p))
 
+  -- so every party named is still set up
   changed-row : (i : ℕ) → i < 256 → soundRow (changed s done) i ≡ true
   unfolding all
   changed-row i l = rw (set-up-same (s givers i), set-up-same (s takers i)) (h .row i l)
@@ -170,6 +172,6 @@ pub profiles-changed-holding : (s : State) (p i : ℕ) → holding (profilesChan
 unfolding profilesChanged holding
 profiles-changed-holding s p i = rw (profiles-turned s 32)
 
--- while profiles change, those to come are as they were, and are told by the same test
+-- while profiles change, those to come are as they were, and so is whether one waits
 pub profile-ahead : (s : State) (n f p : ℕ) → n ≤ p → onEach (waits s) changeTakesEffect n s f p ≡ s f p
 profile-ahead s n f p l = row-ahead (among profileTables) inForce (waits s) changeTakesEffect (stored-row inForce profileTables) s n f p l
