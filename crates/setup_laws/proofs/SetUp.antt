@@ -390,7 +390,7 @@ module _ (s : State) (p i x : ℕ) where
   }
 
 -- what holds of a sum with n more at one place, and of the sums at the others, holds of each
-pub more2-cases : (P : ℕ → Type 0) (f : ℕ → ℕ → ℕ) (p i n q j : ℕ) → (q ≡ p → j ≡ i → P (f q j + n)) → ((q ≡ p → j ≡ i → ⊥) → P (f q j)) → P (more2 f p i n q j)
+more2-cases : (P : ℕ → Type 0) (f : ℕ → ℕ → ℕ) (p i n q j : ℕ) → (q ≡ p → j ≡ i → P (f q j + n)) → ((q ≡ p → j ≡ i → ⊥) → P (f q j)) → P (more2 f p i n q j)
 more2-cases P f p i n q j here there =
     elim (ℕ-discrete q p) [
       | yes a ↦
