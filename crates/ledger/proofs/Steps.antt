@@ -18,9 +18,8 @@ use Rattle.rules.specs.Outcome.{Step, lowest, field}
 use Rattle.rules.specs.Requesting.{entered, cancelled}
 use Rattle.rules.specs.Settlement.{settlement}
 use Rattle.rules.specs.SetUp.{opened, priced, enrolled, basketMade, deposited, withdrawn}
-use Rattle.rules.specs.Sound.{holding}
 use Rattle.facts.proofs.Keeps.{Good, Keeps}
-use Rattle.setup_laws.proofs.SetUp.{good-opening, opening-holds, opening-unused, keeps-price, keeps-participant, keeps-basket, deposit, withdrawal}
+use Rattle.setup_laws.proofs.SetUp.{good-opening, opening-holds, opening-unused, keeps-price, keeps-participant, keeps-basket, nominalAt, deposit, withdrawal}
 use Rattle.ledger.proofs.Paper.{InOrder, on-paper, noted-in-order}
 
 -- what the kinds 6 to 12 keep
@@ -45,10 +44,7 @@ opening-in-order r legal accepted = record {
 abbrev pub down : Paper → ℕ → List ℕ → Step → Paper
 down p k r t = allNoted (lodged (stepped p (t .state)) k r) (t .events)
 
--- what a record of kind 4 or 5 adds to a table of sums: its nominal at its place, and nothing elsewhere
-abbrev nominalAt : List ℕ → ℕ → ℕ → ℕ
-nominalAt r q j = cond (eqb q (field r 0) && eqb j (field r 1)) (field r 2) 0
-
+-- what a deposit adds to D, and a withdrawal to W
 adds : (r : List ℕ) (f : ℕ → ℕ → ℕ) (q j : ℕ) → more2 f (field r 0) (field r 1) (field r 2) q j ≡ f q j + nominalAt r q j
 adds r f q j = go (eqb q (field r 0) && eqb j (field r 1))
   where
@@ -69,14 +65,14 @@ module _ (p : Paper) (o : InOrder p) (r : List ℕ) where
       let keeps = deposit (p .steps) r (o .good) legal accepted in
       let q = lodged (stepped p (deposited (p .steps) r .state)) 4 r in
       noted-in-order q (deposited (p .steps) r .events) (keeps .good) (keeps .amounts q (o .amounts))
-      (λ x i h l. omega (arith, keeps .bonds x i h l, adds r (holding (p .steps)) x i, adds r (p .deposits) x i, o .bonds x i h l))
+      (λ x i h l. omega (arith, keeps .bonds x i h l, adds r (p .deposits) x i, o .bonds x i h l))
 
   withdrawal-in-order : areLegal 5 r ≡ true → lowest (withdrawalRules (p .steps) r) ≡ 0 → InOrder (down p 5 r (withdrawn (p .steps) r))
   withdrawal-in-order legal accepted =
       let keeps = withdrawal (p .steps) r (o .good) legal accepted in
       let q = lodged (stepped p (withdrawn (p .steps) r .state)) 5 r in
       noted-in-order q (withdrawn (p .steps) r .events) (keeps .good) (keeps .amounts q (o .amounts))
-      (λ x i h l. omega (arith, keeps .bonds x i h l, adds r (holding (withdrawn (p .steps) r .state)) x i, adds r (p .withdrawals) x i, o .bonds x i h l))
+      (λ x i h l. omega (arith, keeps .bonds x i h l, adds r (p .withdrawals) x i, o .bonds x i h l))
 
   -- each kind, its fields in their ranges and accepted by its rules
   abbrev Kept : ℕ → Type 0

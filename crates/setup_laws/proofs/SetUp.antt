@@ -1,7 +1,7 @@
 -- What kinds 0 to 5 keep.
 -- Assumes nothing.
 use mathlib.Core.Path.{_≡_, refl, sym}
-use mathlib.Core.Bool.{true, false, not, _&&_, _||_, and-false}
+use mathlib.Core.Bool.{true, false, not, _&&_, _||_, cond, and-false}
 use mathlib.Core.List.{List, [], _∷_}
 use mathlib.Core.Logic.{⊎-elim}
 use Prim.Native.Nat.{ℕ, _+_, _*_, _-_, _≤_, _<_}
@@ -22,7 +22,7 @@ use Rattle.book.specs.State.{State, put, Fits}
 use Rattle.book.proofs.Images.{put-fits}
 use Rattle.book.proofs.Places.{row-of}
 use Rattle.rules.specs.Codes.{openingRules, priceRules, basketRules, depositRules, withdrawalRules}
-use Rattle.rules.specs.Ledger.{Paper, allNoted, more2}
+use Rattle.rules.specs.Ledger.{Paper, allNoted}
 use Rattle.rules.specs.Outcome.{silent, lowest, field}
 use Rattle.rules.specs.SetUp.{emptyState, opened, priced, enrolled, basketMade, deposited, withdrawn}
 use Rattle.rules.specs.Sound.{between, soundSecurity, soundProfile, soundParticipant, soundBasket, soundPosition, holding}
@@ -389,22 +389,25 @@ module _ (s : State) (p i x : ℕ) where
     fits = put-fits s accounts (64 * p + i) x (good .fits) (omega arith) (omega arith) m;
   }
 
--- what holds of a sum with n more at one place, and of the sums at the others, holds of each
-more2-cases : (P : ℕ → Type 0) (f : ℕ → ℕ → ℕ) (p i n q j : ℕ) → (q ≡ p → j ≡ i → P (f q j + n)) → ((q ≡ p → j ≡ i → ⊥) → P (f q j)) → P (more2 f p i n q j)
-more2-cases P f p i n q j here there =
-    elim (ℕ-discrete q p) [
+-- what a record of kind 4 or 5 moves: its nominal at its participant and security, and nothing elsewhere
+abbrev pub nominalAt : List ℕ → ℕ → ℕ → ℕ
+nominalAt r p i = cond (eqb p (field r 0) && eqb i (field r 1)) (field r 2) 0
+
+nominal-cases : (P : ℕ → Type 0) (r : List ℕ) (p i : ℕ) → (p ≡ field r 0 → i ≡ field r 1 → P (field r 2)) → ((p ≡ field r 0 → i ≡ field r 1 → ⊥) → P 0) → P (nominalAt r p i)
+nominal-cases P r p i here there =
+    elim (ℕ-discrete p (field r 0)) [
       | yes a ↦
-          elim (ℕ-discrete j i) [
-            | yes b ↦ rw (eq-eqb q p a, eq-eqb j i b) (here a b)
-            | no b ↦ rw (ne-eqb j i b, and-false) (there (λ c d. b d))
+          elim (ℕ-discrete i (field r 1)) [
+            | yes b ↦ rw (eq-eqb p (field r 0) a, eq-eqb i (field r 1) b) (here a b)
+            | no b ↦ rw (ne-eqb i (field r 1) b, and-false) (there (λ c d. b d))
           ]
-      | no a ↦ rw (ne-eqb q p a) (there (λ c d. a c))
+      | no a ↦ rw (ne-eqb p (field r 0) a) (there (λ c d. a c))
     ]
 
 -- a deposit keeps a sound book and the amounts, and adds its nominal to the bonds at its place
 pub record Deposit (s : State) (r : List ℕ) : Type 0 where
   pub good : Good (deposited s r .state)
-  pub bonds : (p i : ℕ) → p < 32 → i < 64 → holding (deposited s r .state) p i ≡ more2 (holding s) (field r 0) (field r 1) (field r 2) p i
+  pub bonds : (p i : ℕ) → p < 32 → i < 64 → holding (deposited s r .state) p i ≡ holding s p i + nominalAt r p i
   pub amounts : (q : Paper) → Amounts s q → Amounts (deposited s r .state) (allNoted q (deposited s r .events))
 
 module _ (s : State) (r : List ℕ) (good : Good s) (legal : areLegal 4 r ≡ true) (accepted : lowest (depositRules s r) ≡ 0) where
@@ -412,19 +415,19 @@ module _ (s : State) (r : List ℕ) (good : Good s) (legal : areLegal 4 r ≡ tr
   unfolding depositRules
   deposit-room = ltb-false 500000000 (holding s (field r 0) (field r 1) + field r 2) (passed (depositRules s r) refl accepted .1 .1 .0)
 
-  deposit-bonds : (p i : ℕ) → p < 32 → i < 64 → holding (deposited s r .state) p i ≡ more2 (holding s) (field r 0) (field r 1) (field r 2) p i
+  deposit-bonds : (p i : ℕ) → p < 32 → i < 64 → holding (deposited s r .state) p i ≡ holding s p i + nominalAt r p i
   unfolding deposited kinds
   deposit-bonds p i h l =
       let x = s accounts (64 * field r 0 + field r 1) + field r 2 in
       let security = field-in 4 1 r legal (omega arith) in
-      more2-cases (λ (y : ℕ). holding (deposited s r .state) p i ≡ y) (holding s) (field r 0) (field r 1) (field r 2) p i
+      nominal-cases (λ (y : ℕ). holding (deposited s r .state) p i ≡ holding s p i + y) r p i
       (λ a b. rw (a, b) (omega (arith, account-same s (field r 0) (field r 1) x)))
-      (λ d. account-other s (field r 0) (field r 1) x p i (omega arith) l d)
+      (λ d. omega (arith, account-other s (field r 0) (field r 1) x p i (omega arith) l d))
 
   deposit-held : (p i : ℕ) → p < 32 → i < 64 → holding (deposited s r .state) p i ≤ 500000000
   deposit-held p i h l =
       rw (deposit-bonds p i h l)
-      (more2-cases (λ (y : ℕ). y ≤ 500000000) (holding s) (field r 0) (field r 1) (field r 2) p i (λ a b. rw (a, b) deposit-room) (λ d. good .facts .held p i h l))
+      (nominal-cases (λ (y : ℕ). holding s p i + y ≤ 500000000) r p i (λ a b. rw (a, b) deposit-room) (λ d. omega (arith, good .facts .held p i h l)))
 
   pub deposit : Deposit s r
   unfolding deposited allNoted kinds
@@ -442,7 +445,7 @@ module _ (s : State) (r : List ℕ) (good : Good s) (legal : areLegal 4 r ≡ tr
 -- a withdrawal keeps them too, and takes its nominal, which was there, from the bonds at its place
 pub record Withdrawal (s : State) (r : List ℕ) : Type 0 where
   pub good : Good (withdrawn s r .state)
-  pub bonds : (p i : ℕ) → p < 32 → i < 64 → holding s p i ≡ more2 (holding (withdrawn s r .state)) (field r 0) (field r 1) (field r 2) p i
+  pub bonds : (p i : ℕ) → p < 32 → i < 64 → holding (withdrawn s r .state) p i + nominalAt r p i ≡ holding s p i
   pub enough : field r 2 ≤ holding s (field r 0) (field r 1)
   pub amounts : (q : Paper) → Amounts s q → Amounts (withdrawn s r .state) (allNoted q (withdrawn s r .events))
 
@@ -451,21 +454,17 @@ module _ (s : State) (r : List ℕ) (good : Good s) (legal : areLegal 5 r ≡ tr
   unfolding withdrawalRules
   in-account = ltb-false (s accounts (64 * field r 0 + field r 1)) (field r 2) (passed (withdrawalRules s r) refl accepted .1 .1 .0)
 
-  withdrawal-bonds : (p i : ℕ) → p < 32 → i < 64 → holding s p i ≡ more2 (holding (withdrawn s r .state)) (field r 0) (field r 1) (field r 2) p i
+  withdrawal-bonds : (p i : ℕ) → p < 32 → i < 64 → holding (withdrawn s r .state) p i + nominalAt r p i ≡ holding s p i
   unfolding withdrawn kinds
   withdrawal-bonds p i h l =
       let x = s accounts (64 * field r 0 + field r 1) - field r 2 in
       let security = field-in 5 1 r legal (omega arith) in
-      more2-cases (λ (y : ℕ). holding s p i ≡ y) (holding (withdrawn s r .state)) (field r 0) (field r 1) (field r 2) p i
+      nominal-cases (λ (y : ℕ). holding (withdrawn s r .state) p i + y ≡ holding s p i) r p i
       (λ a b. rw (a, b) (omega (arith, in-account, account-same s (field r 0) (field r 1) x)))
-      (λ d. sym (account-other s (field r 0) (field r 1) x p i (omega arith) l d))
+      (λ d. omega (arith, account-other s (field r 0) (field r 1) x p i (omega arith) l d))
 
   withdrawal-held : (p i : ℕ) → p < 32 → i < 64 → holding (withdrawn s r .state) p i ≤ 500000000
-  withdrawal-held p i h l =
-      let least : holding (withdrawn s r .state) p i ≤ holding s p i =
-      rw (withdrawal-bonds p i h l)
-      (more2-cases (λ (y : ℕ). holding (withdrawn s r .state) p i ≤ y) (holding (withdrawn s r .state)) (field r 0) (field r 1) (field r 2) p i (λ a b. omega arith) (λ d. omega arith)) in
-      omega (arith, good .facts .held p i h l)
+  withdrawal-held p i h l = omega (arith, withdrawal-bonds p i h l, good .facts .held p i h l)
 
   pub withdrawal : Withdrawal s r
   unfolding withdrawn allNoted kinds holding
