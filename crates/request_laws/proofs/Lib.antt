@@ -1,0 +1,6 @@
+pub mod Cancelling
+pub mod Covering
+pub mod Finding
+pub mod Keeping
+pub mod Rules
+pub mod Staying
