@@ -12,7 +12,7 @@ use borrow.Author.Tests.{eqb-true, eq-eqb, ne-eqb}
 use Rattle.laws.specs.Search.{least, leastBy, count}
 use Rattle.laws.proofs.Cases.{either, clash, and-left}
 use Rattle.laws.proofs.Least.{least-hit, least-miss, least-none, count-hit, count-miss, count-none}
-use Rattle.book.specs.Layout.{numbers, ends, useds}
+use Rattle.book.specs.Layout.{numbers, ends, useds, exposureGivers, exposureTakers, exposureBaskets, exposureClosings}
 use Rattle.book.specs.State.{State, put}
 use Rattle.book.proofs.Images.{put-same, put-other}
 use Rattle.rules.specs.Requests.{isUsed, isWhole, isOwner, hasKey, exposureWith, freeExposure, freeRow}
@@ -136,6 +136,12 @@ module _ (s : State) where
 
   -- an exposure with a key is found, and only such a one
   module _ (giver taker basket closing : ℕ) where
+    pub has-key : (e : ℕ) → s useds e ≡ 1 → s exposureGivers e ≡ giver → s exposureTakers e ≡ taker → s exposureBaskets e ≡ basket → s exposureClosings e ≡ closing
+        → hasKey s giver taker basket closing e ≡ true
+    has-key e u g t b c =
+        rw (eq-eqb (s useds e) 1 u, eq-eqb (s exposureGivers e) giver g, eq-eqb (s exposureTakers e) taker t, eq-eqb (s exposureBaskets e) basket b)
+        (eq-eqb (s exposureClosings e) closing c)
+
     pub exposure-passes : exposureWith s giver taker basket closing < 64 → hasKey s giver taker basket closing (exposureWith s giver taker basket closing) ≡ true
     exposure-passes h = least-passes (hasKey s giver taker basket closing) 64 0 (omega arith)
 
