@@ -16,7 +16,8 @@ use Rattle.laws.proofs.Least.{all-at, all-same}
 use Rattle.facts.proofs.Facts.{all-of}
 use Rattle.book.specs.Layout.{exposureGivers, accounts, positions}
 use Rattle.book.specs.State.{State, raised, lowered, Lowerable}
-use Rattle.book.proofs.Moves.{raised-at, lowered-at, raised-other, lowered-other, moved-cases}
+use Rattle.book.proofs.Moves.{raised-other, lowered-other, moved-cases}
+use Rattle.bond_laws.proofs.Moving.{pledge-position, giveBack-position}
 use Rattle.rules.specs.Marking.{moved}
 use Rattle.rules.specs.Stock.{pledge, giveBack}
 use Rattle.marking_laws.specs.Pass.{isEmpty}
@@ -59,13 +60,6 @@ module _ (s : State) (e : ℕ) (by : List ℕ) where
         rows = λ j n. lowered-other s positions (64 * e) by positions j (λ q l m. n l m);
       }
 
-  -- what the position of e becomes
-  pub pledged-at : (i : ℕ) → i < 64 → pledge s e by positions (64 * e + i) ≡ s positions (64 * e + i) + getD by i 0
-  pledged-at i l = raised-at (lowered s accounts giver-row by) positions (64 * e) by i l
-
-  pub given-at : (i : ℕ) → i < 64 → giveBack s e by positions (64 * e + i) ≡ s positions (64 * e + i) - getD by i 0
-  given-at i l = lowered-at s positions (64 * e) by i l
-
 -- the nominal i is the same in the position of e in two states
 abbrev sameAt : State → State → ℕ → ℕ → Bool
 sameAt s t e i = eqb (s positions (64 * e + i)) (t positions (64 * e + i))
@@ -96,6 +90,9 @@ moved-none s e = ap not (alike-all s s e (λ i l. refl))
 abbrev pub NoMore : State → State → ℕ → Type 0
 NoMore s t e = (i : ℕ) → i < 64 → t positions (64 * e + i) ≤ s positions (64 * e + i)
 
+pub given-less : (s : State) (e : ℕ) (by : List ℕ) → NoMore s (giveBack s e by) e
+given-less s e by i l = omega (arith, giveBack-position s e by i l)
+
 -- a position that a first step and then a second only lower is another after both where one of them made it another
 pub moved-both : (s t u : State) (e : ℕ) → NoMore s t e → NoMore t u e → moved s u e ≡ (moved s t e || moved t u e)
 moved-both s t u e low lower = go (all (sameAt s u e) 64 0) (all (sameAt s t e) 64 0) (all (sameAt t u e) 64 0) refl refl refl
@@ -111,7 +108,7 @@ moved-both s t u e low lower = go (all (sameAt s u e) 64 0) (all (sameAt s t e) 
 module _ (s : State) (e : ℕ) (by : List ℕ) where
   -- an exposure takes in where what is pledged is not empty
   pub took-in : moved s (pledge s e by) e ≡ not (isEmpty by)
-  took-in = ap not (all-same (sameAt s (pledge s e by) e) (λ i. eqb (getD by i 0) 0) 64 0 (λ i g l. rw (pledged-at s e by i (omega arith)) (alike (s positions (64 * e + i)) (getD by i 0))))
+  took-in = ap not (all-same (sameAt s (pledge s e by) e) (λ i. eqb (getD by i 0) 0) 64 0 (λ i g l. rw (pledge-position s e by i (omega arith)) (alike (s positions (64 * e + i)) (getD by i 0))))
     where
       alike : (a b : ℕ) → eqb a (a + b) ≡ eqb b 0
       alike a b = ⊎-elim
@@ -122,7 +119,7 @@ module _ (s : State) (e : ℕ) (by : List ℕ) where
   -- and gives back where what is given back is not empty
   pub gave-back : Lowerable s positions (64 * e) by → moved s (giveBack s e by) e ≡ not (isEmpty by)
   gave-back h = ap not (all-same (sameAt s (giveBack s e by) e) (λ i. eqb (getD by i 0) 0) 64 0
-      (λ i g l. rw (given-at s e by i (omega arith)) (alike (s positions (64 * e + i)) (getD by i 0) (h .enough i (omega arith)))))
+      (λ i g l. rw (giveBack-position s e by i (omega arith)) (alike (s positions (64 * e + i)) (getD by i 0) (h .enough i (omega arith)))))
     where
       alike : (a b : ℕ) → b ≤ a → eqb a (a - b) ≡ eqb b 0
       alike a b m = ⊎-elim

@@ -36,10 +36,10 @@ columns-kept {s} {t} b =
     filled-same (λ k. t (lots + k / 64) (k % 64)) (λ k. s (lots + k / 64) (k % 64)) 256 256 (λ k l. b .others (lots + k / 64) (k % 64) (λ q. omega arith) (λ q. omega arith))
 
 -- one nominal among 64
-one-same : (i n : ℕ) → i < 64 → getD (oneNominal i n) i 0 ≡ n
+pub one-same : (i n : ℕ) → i < 64 → getD (oneNominal i n) i 0 ≡ n
 one-same i n l = getD-set-same (replicate 64 0) i n 0 (simp length-replicate l)
 
-one-other : (i n j : ℕ) → j < 64 → (j ≡ i → ⊥) → getD (oneNominal i n) j 0 ≡ 0
+pub one-other : (i n j : ℕ) → j < 64 → (j ≡ i → ⊥) → getD (oneNominal i n) j 0 ≡ 0
 one-other i n j l d = getD-set-other (replicate 64 0) i j n 0 d ∙ getD-replicate 64 j 0 0 l
 
 -- a row in which one number is changed
