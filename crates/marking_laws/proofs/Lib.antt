@@ -1,0 +1,5 @@
+pub mod Marking
+pub mod Moved
+pub mod Passes
+pub mod Ranges
+pub mod Recalls
