@@ -10,7 +10,7 @@ use Rattle.book.specs.Layout.{today, useds, exposureClosings, exposures}
 use Rattle.book.specs.State.{State, put}
 use Rattle.rules.specs.Codes.{nextDayRules}
 use Rattle.rules.specs.DayChange.{rowsDropped, profilesChanged, isExposureClosed, exposuresClosed, closings12, dayChanged, nextDay}
-use Rattle.rules.specs.Ledger.{Paper, allNoted}
+use Rattle.facts.proofs.Sums.{Sums, allNoted}
 use Rattle.rules.specs.Outcome.{lowest}
 use Rattle.rules.specs.Sound.{holding}
 use Rattle.facts.proofs.Keeps.{Good, Amounts, Keeps}
@@ -81,7 +81,7 @@ module _ (s : State) (g : Good s) (h : lowest (nextDayRules s) ≡ 0) where
   parts false x = omega arith
 
   -- "S − R − C": what was closed has left the amount
-  day-changed-amounts : (p : Paper) → Amounts s p → Amounts (dayChanged s) (allNoted p (closings12 s day 64))
+  day-changed-amounts : (p : Sums) → Amounts s p → Amounts (dayChanged s) (allNoted p (closings12 s day 64))
   day-changed-amounts p a e l u =
       omega (
         arith,

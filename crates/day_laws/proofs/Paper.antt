@@ -13,18 +13,18 @@ use Rattle.laws.proofs.Cases.{either}
 use Rattle.book.specs.Layout.{exposures}
 use Rattle.book.specs.State.{State}
 use Rattle.rules.specs.DayChange.{isExposureClosed, closings12}
-use Rattle.rules.specs.Ledger.{Paper, noted, allNoted}
+use Rattle.facts.proofs.Sums.{Sums, noted, allNoted}
 use Rattle.rules.specs.Outcome.{Event, closed}
 
 -- one list of events after the other
-pub noted-append : (p : Paper) (xs ys : List Event) → allNoted p (xs ++ ys) ≡ allNoted (allNoted p xs) ys
+pub noted-append : (p : Sums) (xs ys : List Event) → allNoted p (xs ++ ys) ≡ allNoted (allNoted p xs) ys
 unfolding allNoted
 noted-append p [] ys = refl
 noted-append p (x ∷ xs) ys = noted-append (noted p x) xs ys
 
-module _ (s : State) (day : ℕ) (p : Paper) where
+module _ (s : State) (day : ℕ) (p : Sums) where
   -- the paper after the exposures below n
-  abbrev told : ℕ → Paper
+  abbrev told : ℕ → Sums
   told n = allNoted p (closings12 s day n)
 
   told-closed : (n : ℕ) → isExposureClosed s day n ≡ true → told (suc n) ≡ noted (told n) (closed n (s exposures n))

@@ -17,12 +17,17 @@ use Rattle.book.specs.State.{State, state, image}
 use Rattle.book.proofs.Images.{state-image, image-length}
 use Rattle.rules.specs.Call.{stepOf, recordCode, callCode, callBook}
 use Rattle.rules.specs.Codes.{openingRules, codeOf}
-use Rattle.rules.specs.Ledger.{Call, send, ask, Paper, fresh, onPaper, takenDown, paperCode, paperNext, paperCodes, paperAfter, bookCode, bookNext, bookCodes, bookAfter, Agrees, Opened, Demand3}
+use Rattle.ledger.specs.Ledger.{Call, send, ask, Paper, fresh, onPaper, takenDown, paperCode, paperNext, paperCodes, paperAfter, bookCode, bookNext, bookCodes, bookAfter, Agrees, Opened, Demand3}
 use Rattle.rules.specs.Outcome.{lowest}
 use Rattle.rules.specs.Reads.{Read, readRules, readCode}
 use Rattle.rules.specs.SetUp.{opened}
 use Rattle.facts.proofs.Facts.{facts-sound}
 use Rattle.facts.proofs.Keeps.{Good}
+use Rattle.request_laws.proofs.Entering.{keeps-fop, keeps-return}
+use Rattle.request_laws.proofs.Cancelling.{keeps-cancel}
+use Rattle.settlement_laws.proofs.Keeping.{keeps-settlement}
+use Rattle.marking_laws.proofs.Marking.{keeps-mark, keeps-recall}
+use Rattle.day_laws.proofs.NextDay.{keeps-next-day}
 use Rattle.ledger.proofs.Paper.{InOrder, on-paper, noted-steps}
 use Rattle.ledger.proofs.Readings.{reading-taken}
 use Rattle.ledger.proofs.Steps.{StepsKeep, opening-in-order, taken-in-order}
@@ -184,3 +189,17 @@ demand-3-from laws b p bytes calls o =
       codes = ap₂ _∷_ (o .accepted ∙ sym (opening-code b bytes o (onPaper p))) (rest .codes);
       agrees = agrees (bookAfter (callBook b bytes) calls) (paperAfter (paperNext p (send bytes)) calls) (rest .left) (rest .in-order);
     }
+
+-- demand 3
+pub demand-3 : Demand3
+demand-3 =
+    demand-3-from
+    (record {
+      fop = keeps-fop;
+      return = keeps-return;
+      cancel = keeps-cancel;
+      settle = keeps-settlement;
+      mark = keeps-mark;
+      recalls = keeps-recall;
+      next-day = keeps-next-day;
+    })

@@ -12,7 +12,7 @@ use Rattle.book.specs.State.{State}
 use Rattle.rules.specs.Call.{stepOf}
 use Rattle.rules.specs.Codes.{openingRules, depositRules, withdrawalRules, fopRules, returnRules, cancelRules, recallRules, nextDayRules, codeOf}
 use Rattle.rules.specs.DayChange.{nextDay}
-use Rattle.rules.specs.Ledger.{Paper, stepped, fresh, lodged, allNoted, more2, takenDown}
+use Rattle.ledger.specs.Ledger.{Paper, stepped, fresh, lodged, allNoted, more2, takenDown}
 use Rattle.rules.specs.Marking.{marked, recall}
 use Rattle.rules.specs.Outcome.{Step, lowest, field}
 use Rattle.rules.specs.Requesting.{entered, cancelled}
@@ -20,7 +20,7 @@ use Rattle.rules.specs.Settlement.{settlement}
 use Rattle.rules.specs.SetUp.{opened, priced, enrolled, basketMade, deposited, withdrawn}
 use Rattle.facts.proofs.Keeps.{Good, Keeps}
 use Rattle.setup_laws.proofs.SetUp.{good-opening, opening-holds, opening-unused, keeps-price, keeps-participant, keeps-basket, nominalAt, deposit, withdrawal}
-use Rattle.ledger.proofs.Paper.{InOrder, on-paper, noted-in-order}
+use Rattle.ledger.proofs.Paper.{sumsOf, InOrder, on-paper, noted-in-order}
 
 -- what the kinds 6 to 12 keep
 pub record StepsKeep : Type 0 where
@@ -56,7 +56,7 @@ module _ (p : Paper) (o : InOrder p) (r : List ℕ) where
   -- a step that keeps each participant's bonds
   kept-in-order : (k : ℕ) (t : Step) → eqb k 4 ≡ false → eqb k 5 ≡ false → Keeps (p .steps) t → InOrder (down p k r t)
   kept-in-order k t d w keeps =
-      noted-in-order (lodged (stepped p (t .state)) k r) (t .events) (keeps .good) (keeps .amounts (lodged (stepped p (t .state)) k r) (o .amounts))
+      noted-in-order (lodged (stepped p (t .state)) k r) (t .events) (keeps .good) (keeps .amounts (sumsOf p) (o .amounts))
       (λ q i h l. rw (d, w, keeps .bonds q i h l) (o .bonds q i h l))
 
   -- "A deposit adds to D, a withdrawal to W."
@@ -64,14 +64,14 @@ module _ (p : Paper) (o : InOrder p) (r : List ℕ) where
   deposit-in-order legal accepted =
       let keeps = deposit (p .steps) r (o .good) legal accepted in
       let q = lodged (stepped p (deposited (p .steps) r .state)) 4 r in
-      noted-in-order q (deposited (p .steps) r .events) (keeps .good) (keeps .amounts q (o .amounts))
+      noted-in-order q (deposited (p .steps) r .events) (keeps .good) (keeps .amounts (sumsOf p) (o .amounts))
       (λ x i h l. omega (arith, keeps .bonds x i h l, adds r (p .deposits) x i, o .bonds x i h l))
 
   withdrawal-in-order : areLegal 5 r ≡ true → lowest (withdrawalRules (p .steps) r) ≡ 0 → InOrder (down p 5 r (withdrawn (p .steps) r))
   withdrawal-in-order legal accepted =
       let keeps = withdrawal (p .steps) r (o .good) legal accepted in
       let q = lodged (stepped p (withdrawn (p .steps) r .state)) 5 r in
-      noted-in-order q (withdrawn (p .steps) r .events) (keeps .good) (keeps .amounts q (o .amounts))
+      noted-in-order q (withdrawn (p .steps) r .events) (keeps .good) (keeps .amounts (sumsOf p) (o .amounts))
       (λ x i h l. omega (arith, keeps .bonds x i h l, adds r (p .withdrawals) x i, o .bonds x i h l))
 
   -- each kind, its fields in their ranges and accepted by its rules

@@ -11,7 +11,7 @@ use lib.Dec.{eqb}
 use borrow.Author.Tests.{eq-eqb, ne-eqb}
 use Rattle.book.specs.Layout.{useds, exposureGivers, exposureTakers, exposureBaskets, exposureClosings, exposures}
 use Rattle.book.specs.State.{State}
-use Rattle.rules.specs.Ledger.{Paper, allNoted}
+use Rattle.facts.proofs.Sums.{Sums, allNoted}
 use Rattle.rules.specs.Outcome.{given}
 use Rattle.rules.specs.Requests.{partnerOf}
 use Rattle.rules.specs.Requesting.{giverIn, takerIn, objectIn, closingIn, exposureOf, exposureGiven}
@@ -96,7 +96,7 @@ module _ (s : State) (r : List ℕ) (e : ℕ) where
               ]
         ]
 
-    amounts : (p : Paper) → Amounts s p → Amounts with (allNoted p (given e ∷ []))
+    amounts : (p : Sums) → Amounts s p → Amounts with (allNoted p (given e ∷ []))
     unfolding allNoted
     amounts p h d l u =
         elim (ℕ-discrete d e) [

@@ -6,7 +6,7 @@ use mathlib.Core.List.{List, []}
 use Prim.Native.Nat.{ℕ, _<_}
 use Rattle.book.specs.Layout.{numbers, useds, exposures}
 use Rattle.book.specs.State.{State, Fits}
-use Rattle.rules.specs.Ledger.{allNoted}
+use Rattle.facts.proofs.Sums.{allNoted}
 use Rattle.rules.specs.Outcome.{Step, Event}
 use Rattle.rules.specs.Sound.{soundRow}
 use Rattle.facts.proofs.Keeps.{Good, Keeps}

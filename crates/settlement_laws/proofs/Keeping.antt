@@ -11,7 +11,7 @@ use borrow.Author.Tests.{eq-eqb, ne-eqb, eqb-false}
 use Rattle.laws.proofs.Cases.{either}
 use Rattle.book.specs.Layout.{kinds, objects, useds, exposures}
 use Rattle.book.specs.State.{State}
-use Rattle.rules.specs.Ledger.{Paper, noted, allNoted}
+use Rattle.facts.proofs.Sums.{Sums, noted, allNoted}
 use Rattle.rules.specs.Outcome.{Event, settled, returned}
 use Rattle.rules.specs.Requests.{exposureOfFop}
 use Rattle.rules.specs.Settlement.{Settling, orderOf, nextDue, returnAmount, returnSettled, settleReturn, fopAmount, fopSettled, settleFop, settleAll, allSettled, settlement}
@@ -21,17 +21,17 @@ use Rattle.settlement_laws.proofs.Finding.{Due, due-row}
 use Rattle.settlement_laws.proofs.Settling.{return-good, return-bonds, return-within, return-exposure, return-other, return-used, fop-good, fop-bonds, fop-exposure, fop-other, fop-used}
 
 -- events noted one list after the other
-pub noted-append : (p : Paper) (a b : List Event) → allNoted p (a ++ b) ≡ allNoted (allNoted p a) b
+pub noted-append : (p : Sums) (a b : List Event) → allNoted p (a ++ b) ≡ allNoted (allNoted p a) b
 unfolding allNoted
 noted-append p [] b = refl
 noted-append p (e ∷ a) b = noted-append (noted p e) a b
 
-pub noted-one : (p : Paper) (a : List Event) (e : Event) → allNoted p (a ++ (e ∷ [])) ≡ noted (allNoted p a) e
+pub noted-one : (p : Sums) (a : List Event) (e : Event) → allNoted p (a ++ (e ∷ [])) ≡ noted (allNoted p a) e
 unfolding allNoted
 noted-one p a e = noted-append p a (e ∷ [])
 
 -- the paper follows the exposure that changes
-module _ (s t : State) (e x : ℕ) (used : (d : ℕ) → t useds d ≡ s useds d) (other : (d : ℕ) → (d ≡ e → ⊥) → t exposures d ≡ s exposures d) (p : Paper) (a : Amounts s p) where
+module _ (s t : State) (e x : ℕ) (used : (d : ℕ) → t useds d ≡ s useds d) (other : (d : ℕ) → (d ≡ e → ⊥) → t exposures d ≡ s exposures d) (p : Sums) (a : Amounts s p) where
   pub settled-amounts : t exposures e ≡ s exposures e + x → Amounts t (noted p (settled e x))
   settled-amounts own d l u =
       let before = a d l (sym (used d) ∙ u) in
@@ -52,7 +52,7 @@ module _ (s t : State) (e x : ℕ) (used : (d : ℕ) → t useds d ≡ s useds d
 pub record Kept (s : State) (w : Settling) : Type 0 where
   pub good : Good (w .state)
   pub bonds : (p i : ℕ) → p < 32 → i < 64 → holding (w .state) p i ≡ holding s p i
-  pub amounts : (p : Paper) → Amounts s p → Amounts (w .state) (allNoted p (w .events))
+  pub amounts : (p : Sums) → Amounts s p → Amounts (w .state) (allNoted p (w .events))
 
 module _ (s : State) where
   return-kept : (w : Settling) (i last : ℕ) → Kept s w → Due (w .state) 7 last i → Kept s (settleReturn w i)

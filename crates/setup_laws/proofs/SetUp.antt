@@ -22,7 +22,7 @@ use Rattle.book.specs.State.{State, put, Fits}
 use Rattle.book.proofs.Images.{put-fits}
 use Rattle.book.proofs.Places.{row-of}
 use Rattle.rules.specs.Codes.{openingRules, priceRules, basketRules, depositRules, withdrawalRules}
-use Rattle.rules.specs.Ledger.{Paper, allNoted}
+use Rattle.facts.proofs.Sums.{Sums, allNoted}
 use Rattle.rules.specs.Outcome.{silent, lowest, field}
 use Rattle.rules.specs.SetUp.{emptyState, opened, priced, enrolled, basketMade, deposited, withdrawn}
 use Rattle.rules.specs.Sound.{between, soundSecurity, soundProfile, soundParticipant, soundBasket, soundPosition, holding}
@@ -408,7 +408,7 @@ nominal-cases P r p i here there =
 pub record Deposit (s : State) (r : List ℕ) : Type 0 where
   pub good : Good (deposited s r .state)
   pub bonds : (p i : ℕ) → p < 32 → i < 64 → holding (deposited s r .state) p i ≡ holding s p i + nominalAt r p i
-  pub amounts : (q : Paper) → Amounts s q → Amounts (deposited s r .state) (allNoted q (deposited s r .events))
+  pub amounts : (q : Sums) → Amounts s q → Amounts (deposited s r .state) (allNoted q (deposited s r .events))
 
 module _ (s : State) (r : List ℕ) (good : Good s) (legal : areLegal 4 r ≡ true) (accepted : lowest (depositRules s r) ≡ 0) where
   deposit-room : holding s (field r 0) (field r 1) + field r 2 ≤ 500000000
@@ -447,7 +447,7 @@ pub record Withdrawal (s : State) (r : List ℕ) : Type 0 where
   pub good : Good (withdrawn s r .state)
   pub bonds : (p i : ℕ) → p < 32 → i < 64 → holding (withdrawn s r .state) p i + nominalAt r p i ≡ holding s p i
   pub enough : field r 2 ≤ holding s (field r 0) (field r 1)
-  pub amounts : (q : Paper) → Amounts s q → Amounts (withdrawn s r .state) (allNoted q (withdrawn s r .events))
+  pub amounts : (q : Sums) → Amounts s q → Amounts (withdrawn s r .state) (allNoted q (withdrawn s r .events))
 
 module _ (s : State) (r : List ℕ) (good : Good s) (legal : areLegal 5 r ≡ true) (accepted : lowest (withdrawalRules s r) ≡ 0) where
   in-account : field r 2 ≤ s accounts (64 * field r 0 + field r 1)
