@@ -1,7 +1,7 @@
 -- Nominals that may go into a position and out of it: whole lots of securities set up. Those of Pick and of Free are.
 -- Assumes nothing.
-use mathlib.Core.Path.{_≡_, refl, sym, ap, _∙_}
-use mathlib.Core.Bool.{Bool, true, false}
+use mathlib.Core.Path.{_≡_, _∙_}
+use mathlib.Core.Bool.{Bool, true}
 use mathlib.Core.List.{List}
 use mathlib.Core.Logic.{_⊎_, inl, inr, ⊎-elim}
 use Prim.Native.Nat.{ℕ, _+_, _*_, _-_, _/_, _%_, _≤_, _<_}
@@ -14,12 +14,11 @@ use Rattle.laws.proofs.Cases.{either}
 use Rattle.book.specs.Layout.{lots, exposureGivers, accounts, positions}
 use Rattle.book.specs.State.{State, columnsOf, Lowerable}
 use Rattle.picking.proofs.Picks.{picked-value}
-use Rattle.rules.specs.Sound.{soundPosition}
 use Rattle.rules.specs.Stock.{securitySetUp, accountOf, positionOf, pickFor, freeFor}
 use Rattle.facts.proofs.Facts.{Sound}
-use Rattle.facts.proofs.Rows.{Stocked, position-facts}
+use Rattle.facts.proofs.Rows.{position-facts}
 use Rattle.facts.proofs.Stock.{lot-at, account-at, position-at}
-use Rattle.bond_laws.proofs.Counts.{Counted, picked-length, picked-counted, freed-counted, freed-all}
+use Rattle.bond_laws.proofs.Counts.{picked-length, picked-counted, freed-counted, freed-all}
 
 -- none, or whole lots of a security that is set up
 abbrev pub InLots : State → ℕ → ℕ → Type 0

@@ -1,19 +1,17 @@
 -- Bonds that go from a giver's account into an exposure's position, or back: the row of each, every other row, and what the giver
 -- holds in all, which stays.
 -- Assumes nothing.
-use mathlib.Core.Path.{_≡_, refl, sym, ap, _∙_}
-use mathlib.Core.Bool.{Bool, true, false, _&&_, cond, and-false}
+use mathlib.Core.Path.{_≡_, refl, sym, _∙_}
+use mathlib.Core.Bool.{and-false}
 use mathlib.Core.List.{List}
 use Prim.Native.Nat.{ℕ, _+_, _*_, _-_, _≤_, _<_}
 use native.Mathlib.Decide.{ℕ-discrete}
 use native.Mathlib.Omega.{arith}
-use lib.Dec.{eqb}
 use lib.ListN.{getD}
 use borrow.Author.Tests.{eq-eqb, ne-eqb}
-use Rattle.laws.specs.Sum.{sum}
 use Rattle.laws.proofs.Sum.{sum-same, sum-part, sum-one}
 use Rattle.book.specs.Layout.{useds, exposureGivers, accounts, positions}
-use Rattle.book.specs.State.{State, raised, lowered, Raisable, Lowerable, Fits}
+use Rattle.book.specs.State.{State, lowered, Raisable, Lowerable, Fits}
 use Rattle.book.proofs.Moves.{raised-at, lowered-at, raised-other, lowered-other, raised-fits, lowered-fits}
 use Rattle.rules.specs.Sound.{holding, positionFrom}
 use Rattle.rules.specs.Stock.{pledge, giveBack}
