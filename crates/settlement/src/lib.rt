@@ -7,12 +7,12 @@ ghost use Rattle.book.specs.Layout.{settleds, amounts, exposures, bookLength};
 ghost use Rattle.book.specs.State.{state, put, columnsOf};
 ghost use Rattle.facts.proofs.Keeps.{Good};
 ghost use Rattle.rules.specs.Requests.{restOf, exposureOfFop};
-ghost use Rattle.rules.specs.Settlement.{orderOf, nextDue, bothSettled, returnAmount, fopAmount, settleAll, settlement};
+ghost use Rattle.rules.specs.Settlement.{orderOf, nextDue, bothSettled, returnAmount, fopAmount, settlement};
 ghost use Rattle.rules.specs.Sound.{sound};
 ghost use Rattle.totals.specs.Totals.{totalsOf};
 ghost use Rattle.settlement.specs.Due.{duePair, isAhead, earlierOf};
 ghost use Rattle.settlement.specs.Pairs.{PairOf, Settleable, amountFor, returnLeft, fopLeft};
-ghost use Rattle.settlement.specs.Passes.{begun, settleOf, Reached, Within, Room};
+ghost use Rattle.settlement.specs.Passes.{begun, Alike, settleOf, Room, Within, Passed};
 use book::layout::AMOUNTS;
 use book::layout::CLOSINGS;
 use book::layout::ENDS;
@@ -197,8 +197,8 @@ fn settle_fop(book: &mut [u8], columns: &[u64; 256], i: usize) -> u64
 
 // Settles one pair, and counts it where something settled.
 fn settle_pair(book: &mut [u8], columns: &[u64; 256], kind: u64, i: usize, t: Totals) -> Totals
-    requires { ⌜ (length (now book) ≡ bookLength) × Good (state (now book)) × PairOf (state (now book)) kind i × (now columns ≡ columnsOf (state (now book))) × Room t ⌝ }
-    ensures { λ r. ⌜ Reached (settleOf kind (begun (state (now (book .entry))) t) i) (state (now (book .exit))) r × Within t 1 r ⌝ }
+    requires { ⌜ (length (now book) ≡ bookLength) × Good (state (now book)) × PairOf (state (now book)) kind i × (now columns ≡ columnsOf (state (now book))) × Room 512 t ⌝ }
+    ensures { λ r. ⌜ Alike (begun (state (now (book .exit))) r) (settleOf kind (begun (state (now (book .entry))) t) i) × Within t 1 r ⌝ }
 {
     if kind == 7 {
         let x = settle_return(book, columns, i);
@@ -220,4 +220,35 @@ fn settle_pair(book: &mut [u8], columns: &[u64; 256], kind: u64, i: usize, t: To
         b: t.b,
         m: t.m + x,
     }
+}
+
+// Settles the pairs of a kind in their order, each once.
+fn settle_pairs(book: &mut [u8], columns: &[u64; 256], kind: u64, start: Totals) -> Totals
+    requires { ⌜ (length (now book) ≡ bookLength) × Good (state (now book)) × (now columns ≡ columnsOf (state (now book))) × Room 256 start ⌝ }
+    ensures { λ r. ⌜ Passed kind (state (now (book .entry))) start (state (now (book .exit))) r ⌝ }
+{
+    let mut total = start;
+    let mut last: u64 = 0;
+    let mut n: usize = 0;
+    while n < 256 {
+        let i = next_due(book, kind, last);
+        if i == 256 {
+            return total;
+        }
+        last = order_of(book, i);
+        total = settle_pair(book, columns, kind, i, total);
+        n += 1;
+    }
+    total
+}
+
+// 9: settles what is due, returns before FOPs. A: FOPs changed, B: returns changed, M: cents settled by both.
+pub fn settle(book: &mut [u8]) -> Totals
+    requires { ⌜ (length (now book) ≡ bookLength) × (sound (state (now book)) ≡ true) ⌝ }
+    ensures { λ r. ⌜ (r ≡ totalsOf (settlement (state (now (book .entry))))) × (state (now (book .exit)) ≡ settlement (state (now (book .entry))) .state) ⌝ }
+{
+    let columns = book::columns(book);
+    let none = Totals { a: 0, b: 0, m: 0 };
+    let returns = settle_pairs(book, &columns, 7, none);
+    settle_pairs(book, &columns, 6, returns)
 }
