@@ -1,0 +1,4 @@
+pub mod Counts
+pub mod Keeping
+pub mod Lots
+pub mod Moving

@@ -1,0 +1,4 @@
+pub mod Each
+pub mod Freed
+pub mod Profiles
+pub mod Rows
