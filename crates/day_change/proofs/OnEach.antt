@@ -1,9 +1,9 @@
--- A step on each row that passes a test: what it keeps, and a loop that tests on the way.
+-- A step on each row that passes a test: what it leaves, and a loop that tests on the way.
 -- Assumes nothing.
 use mathlib.Core.Path.{_≡_, refl, sym, ap, _∙_}
 use mathlib.Core.Bool.{Bool, true, false, cond}
 use mathlib.Core.Logic.{⊎-elim}
-use Prim.Native.Nat.{ℕ, zero, suc, _+_, _-_, _≤_, _<_}
+use Prim.Native.Nat.{ℕ, _+_, _-_, _<_}
 use native.Mathlib.Nat.{zero-add}
 use native.Mathlib.Numerals.{add-one}
 use native.Mathlib.Omega.{arith}
@@ -12,34 +12,18 @@ use Rattle.laws.proofs.Cases.{either}
 use Rattle.laws.proofs.Least.{count-here, count-on}
 use Rattle.book.specs.State.{State}
 use Rattle.rules.specs.DayChange.{onEach}
+use Rattle.day_laws.proofs.Each.{each-keeps}
 use Rattle.day_change.specs.Parts.{tried}
 
--- what holds of both branches holds of the branch that a test takes
-pub branch-holds : (P : State → Type 0) (b : Bool) {s t : State} → P s → P t → P (cond b s t)
-branch-holds P true p q = p
-branch-holds P false p q = q
-
 module _ (test : ℕ → Bool) (step : State → ℕ → State) where
-  pub each-none : (s : State) → onEach test step 0 s ≡ s
-  unfolding onEach
-  each-none s = refl
-
   -- one row more, in the code's i + 1
-  pub each-next : (i : ℕ) (s : State) → onEach test step (i + 1) s ≡ cond (test i) (step (onEach test step i s) i) (onEach test step i s)
+  each-next : (i : ℕ) (s : State) → onEach test step (i + 1) s ≡ cond (test i) (step (onEach test step i s) i) (onEach test step i s)
   unfolding onEach
   each-next i s = rw add-one
 
-  -- what each step below n keeps, all of them keep
-  pub each-holds : (P : State → Type 0) (n : ℕ) → ((s : State) (j : ℕ) → j < n → P s → P (step s j)) → (s : State) → P s → P (onEach test step n s)
-  unfolding onEach
-  each-holds P zero h s p = p
-  each-holds P (suc n) h s p =
-      let before = each-holds P n (λ t j l. h t j (omega arith)) s p in
-      branch-holds P (test n) (h (onEach test step n s) n (omega arith) before) before
-
   -- what no step below n changes, they leave
-  pub each-keeps : {A : Type 0} (read : State → A) (n : ℕ) → ((s : State) (j : ℕ) → j < n → read (step s j) ≡ read s) → (s : State) → read (onEach test step n s) ≡ read s
-  each-keeps read n h s = each-holds (λ t. read t ≡ read s) n (λ t j l e. h t j l ∙ e) s refl
+  pub each-leaves : {A : Type 0} (read : State → A) (n : ℕ) → ((s : State) (j : ℕ) → j < n → read (step s j) ≡ read s) → (s : State) → read (onEach test step n s) ≡ read s
+  each-leaves read n h s = each-keeps test step s (λ t. read t ≡ read s) n (λ t j l p e. h t j l ∙ e) refl
 
 -- one row less to count
 count-passes : (t : ℕ → Bool) (n i : ℕ) → i < n → count t (n - i) i ≡ cond (t i) 1 0 + count t (n - (i + 1)) (i + 1)
@@ -48,7 +32,7 @@ count-passes t n i l = ⊎-elim (λ h. rw h (count-here t n i l h)) (λ h. rw h 
 -- Where the step at a row leaves the tests of the rows after it, testing on the way is the same as testing before.
 module _ (test : State → ℕ → Bool) (step : State → ℕ → State) (apart : (s : State) (j i : ℕ) → j < i → test (step s j) i ≡ test s i) where
   pub tested-before : (s : State) (i : ℕ) → test (onEach (test s) step i s) i ≡ test s i
-  tested-before s i = each-keeps (test s) step (λ t. test t i) i (λ t j l. apart t j i l) s
+  tested-before s i = each-leaves (test s) step (λ t. test t i) i (λ t j l. apart t j i l) s
 
   pub loop-steps : (s : State) (i : ℕ) {t u : State} → t ≡ onEach (test s) step i s → u ≡ tried test step t i → u ≡ onEach (test s) step (i + 1) s
   loop-steps s i {t} {u} e f =

@@ -1,13 +1,12 @@
 -- Request rows in a day change: dropping a row leaves the tests of the others, and what a return names.
 -- Assumes nothing.
-use mathlib.Core.Path.{_≡_, refl, sym, ap, _∙_}
-use mathlib.Core.Bool.{Bool, true, false, not, _&&_, _||_, cond}
+use mathlib.Core.Path.{_≡_, refl, sym, _∙_}
+use mathlib.Core.Bool.{Bool}
 use mathlib.Core.Logic.{⊎-elim}
-use Prim.Native.Nat.{ℕ, zero, suc, _+_, _≤_, _<_}
+use Prim.Native.Nat.{ℕ, _+_, _<_}
 use native.Mathlib.Numerals.{add-one}
 use native.Mathlib.Omega.{arith}
-use lib.Dec.{eqb}
-use borrow.Author.Tests.{ne-eqb, eqb-true, not-false}
+use borrow.Author.Tests.{ne-eqb}
 use Rattle.laws.specs.Filled.{filled}
 use Rattle.laws.proofs.Cases.{either}
 use Rattle.book.specs.Layout.{modes, lists, partials, waitingModes, waitingLists, waitingPartials, numbers, kinds, objects, useds}
@@ -15,12 +14,12 @@ use Rattle.book.specs.State.{State, put}
 use Rattle.rules.specs.DayChange.{isDropped, blanked, changeTakesEffect, onEach}
 use Rattle.rules.specs.Requests.{isUsed}
 use Rattle.rules.specs.Sound.{sound}
-use Rattle.facts.proofs.Facts.{Sound, sound-facts}
-use Rattle.facts.proofs.Rows.{Fields, Kind, fop, return, used-fields, unused-blank}
+use Rattle.facts.proofs.Facts.{Sound}
+use Rattle.facts.proofs.Rows.{Kind, fop, return, used-fields, unused-blank}
 use Rattle.sound_setup.specs.Rows.{InRows}
 use Rattle.sound_setup.proofs.InRows.{in-rows}
+use Rattle.day_laws.proofs.Each.{each-keeps}
 use Rattle.day_change.specs.Parts.{tried, profileWaits, cleared, ReturnNamed}
-use Rattle.day_change.proofs.OnEach.{each-keeps}
 
 -- the tables that are cleared at once have the same rows
 pub in-requests : (i : ℕ) → i < 256 → InRows 15 numbers i
@@ -69,16 +68,9 @@ module _ (s : State) (p : ℕ) {x : ℕ} (xq : x ≡ s waitingModes p) where
   pub profile-kept : x ≡ 0 → s ≡ tried profileWaits changeTakesEffect s p
   profile-kept z = rw (sym xq ∙ z)
 
--- the rows from i on are as they were
-module _ (test : ℕ → Bool) (s : State) (i : ℕ) where
-  pub later-kind : onEach test blanked i s kinds i ≡ s kinds i
-  later-kind = each-keeps test blanked (λ t. t kinds i) i (λ t j l. rw (ne-eqb i j (λ e. omega arith))) s
-
-  pub later-object : onEach test blanked i s objects i ≡ s objects i
-  later-object = each-keeps test blanked (λ t. t objects i) i (λ t j l. rw (ne-eqb i j (λ e. omega arith))) s
-
-  pub later-named : ReturnNamed s i → ReturnNamed (onEach test blanked i s) i
-  later-named r = record { named = λ k. rw later-object (r .named (sym later-kind ∙ k)) }
+-- while the rows below i are dropped, a return at i names its exposure
+pub later-named : (test : ℕ → Bool) (s : State) (i : ℕ) → ReturnNamed s i → ReturnNamed (onEach test blanked i s) i
+later-named test s i r = each-keeps test blanked s (λ t. ReturnNamed t i) i (λ t j l p h. record { named = rw (ne-eqb i j (λ e. omega arith)) (h .named) }) r
 
 -- a return of a sound book names an exposure row
 module _ (s : State) (f : Sound s) (i : ℕ) (l : i < 256) where

@@ -5,9 +5,10 @@ use mathlib.Core.Bool.{Bool, not, cond}
 use Prim.Native.Nat.{ℕ, zero, suc, _+_, _≤_, _<_}
 use lib.Dec.{eqb}
 use Rattle.laws.specs.Sum.{sum}
-use Rattle.book.specs.Layout.{waitingModes, kinds, objects, useds, exposureGivers, exposures}
+use Rattle.book.specs.Layout.{waitingModes, kinds, givers, takers, objects, closings, useds, exposureGivers, exposures}
 use Rattle.book.specs.State.{State, put}
-use Rattle.rules.specs.DayChange.{isDropped, isExposureClosed}
+use Rattle.rules.specs.DayChange.{isDropped, isExposureClosed, belongs}
+use Rattle.rules.specs.Requests.{hasKey}
 use Rattle.rules.specs.Sound.{holding}
 
 -- a step at a row where a test of the state holds there
@@ -45,3 +46,10 @@ pub record Closable (s : State) : Type 0 where
   pub giver : (e : ℕ) → e < 64 → s useds e ≡ 1 → s exposureGivers e < 32
   pub amount : (e : ℕ) → e < 64 → s useds e ≡ 1 → s exposures e ≤ 10000000000000
   pub held : (p i : ℕ) → p < 32 → i < 64 → holding s p i ≤ 500000000
+
+-- an exposure has the key of a FOP row; a row does not belong to an exposure
+abbrev pub hasKeyOf : State → ℕ → ℕ → Bool
+hasKeyOf s e i = hasKey s (s givers i) (s takers i) (s objects i) (s closings i) e
+
+abbrev pub isNotOf : State → ℕ → ℕ → Bool
+isNotOf s e i = not (belongs s e i)

@@ -2,21 +2,19 @@
 // A row is tested and changed in one pass: no test reads what the steps on the rows before it have changed.
 ghost use mathlib.Core.Path.{_≡_};
 ghost use mathlib.Core.Bool.{true, cond};
-ghost use Prim.Native.Nat.{_+_, _*_, _<_, _≤_};
+ghost use Prim.Native.Nat.{_+_, _*_, _<_};
 ghost use lib.ListN.{length};
 ghost use Rattle.laws.specs.Search.{all, count};
 ghost use Rattle.book.specs.Layout.{bookLength, tableCount, rowsOf, widthOf, useds};
 ghost use Rattle.book.specs.State.{state, put};
-ghost use Rattle.calendar.specs.Target.{nextOpenDay};
 ghost use Rattle.rules.specs.Codes.{nextDayRules};
 ghost use Rattle.rules.specs.DayChange.{isReached, isDone, isClosed, isDropped, blanked, rowsDropped, changeTakesEffect, profilesChanged, isExposureClosed, exposureClosed, exposuresClosed, belongs, isIdle, exposureFreed, exposuresFreed, nextDay};
 ghost use Rattle.rules.specs.Outcome.{lowest};
-ghost use Rattle.rules.specs.Requests.{hasKey};
 ghost use Rattle.rules.specs.Sound.{sound};
 ghost use Rattle.rules.specs.Stock.{positionOf, giveBack};
 ghost use Rattle.sound_setup.specs.Rows.{InRows};
 ghost use Rattle.totals.specs.Totals.{totalsOf};
-ghost use Rattle.day_change.specs.Parts.{tried, dropsOn, profileWaits, closesOn, cleared, ReturnNamed, amountClosed, amountsClosed, Closable};
+ghost use Rattle.day_change.specs.Parts.{tried, dropsOn, profileWaits, closesOn, cleared, ReturnNamed, amountClosed, amountsClosed, Closable, hasKeyOf, isNotOf};
 use book::layout::ACCOUNTS;
 use book::layout::AMOUNTS;
 use book::layout::CLOSINGS;
@@ -186,5 +184,165 @@ fn change_profiles(book: &mut [u8])
     while p < 32 {
         change_profile(book, p);
         p += 1;
+    }
+}
+
+// Is an exposure used, and its closing date reached?
+fn is_exposure_closed(book: &[u8], day: u64, e: usize) -> bool
+    requires { ⌜ (length (now book) ≡ bookLength) × (e < 64) ⌝ }
+    ensures { λ r. ⌜ r ≡ isExposureClosed (state (now (book .entry))) day e ⌝ }
+{
+    if book::get(book, USEDS, e) != 1 {
+        return false;
+    }
+    is_reached(day, book::get(book, EXPOSURE_CLOSINGS, e))
+}
+
+// An exposure's position goes back to its giver.
+fn give_back(book: &mut [u8], e: usize)
+    requires { ⌜ (length (now book) ≡ bookLength) × (e < 64) × (state (now book) useds e ≡ 1) × Closable (state (now book)) ⌝ }
+    ensures { λ _. ⌜ state (now (book .exit)) ≡ giveBack (state (now (book .entry))) e (positionOf (state (now (book .entry))) e) ⌝ }
+{
+    let position = book::row_at(book, POSITIONS, 64 * e);
+    let giver = book::get(book, EXPOSURE_GIVERS, e) as usize;
+    book::lower(book, POSITIONS, 64 * e, &position);
+    book::raise(book, ACCOUNTS, 64 * giver, &position);
+}
+
+// Closes an exposure whose closing date is reached: the amount closed.
+fn close_exposure(book: &mut [u8], day: u64, e: usize) -> u64
+    requires { ⌜ (length (now book) ≡ bookLength) × (e < 64) × Closable (state (now book)) ⌝ }
+    ensures { λ r. ⌜ (r ≡ amountClosed (state (now (book .entry))) day e) × (state (now (book .exit)) ≡ tried (closesOn day) exposureClosed (state (now (book .entry))) e) ⌝ }
+{
+    if is_exposure_closed(book, day, e) {
+        let amount = book::get(book, EXPOSURES, e);
+        give_back(book, e);
+        book::set(book, EXPOSURES, e, 0);
+        amount
+    } else {
+        0
+    }
+}
+
+// Closes the exposures whose closing date is reached: the amounts closed.
+fn close_exposures(book: &mut [u8], day: u64) -> u64
+    requires { ⌜ (length (now book) ≡ bookLength) × Closable (state (now book)) ⌝ }
+    ensures { λ r. ⌜ (r ≡ amountsClosed (state (now (book .entry))) day) × (state (now (book .exit)) ≡ exposuresClosed (state (now (book .entry))) day) ⌝ }
+{
+    let mut closed: u64 = 0;
+    let mut e: usize = 0;
+    while e < 64 {
+        closed += close_exposure(book, day, e);
+        e += 1;
+    }
+    closed
+}
+
+// Is the exposure e used, with the key of the FOP row i?
+fn has_key_of(book: &[u8], e: usize, i: usize) -> bool
+    requires { ⌜ (length (now book) ≡ bookLength) × (e < 64) × (i < 256) ⌝ }
+    ensures { λ r. ⌜ r ≡ hasKeyOf (state (now (book .entry))) e i ⌝ }
+{
+    if book::get(book, USEDS, e) != 1 {
+        return false;
+    }
+    if book::get(book, EXPOSURE_GIVERS, e) != book::get(book, GIVERS, i) {
+        return false;
+    }
+    if book::get(book, EXPOSURE_TAKERS, e) != book::get(book, TAKERS, i) {
+        return false;
+    }
+    if book::get(book, EXPOSURE_BASKETS, e) != book::get(book, OBJECTS, i) {
+        return false;
+    }
+    book::get(book, EXPOSURE_CLOSINGS, e) == book::get(book, CLOSINGS, i)
+}
+
+// Does the row i belong to the exposure e: a return that names it, a FOP pair with its key?
+fn does_belong(book: &[u8], e: usize, i: usize) -> bool
+    requires { ⌜ (length (now book) ≡ bookLength) × (e < 64) × (i < 256) ⌝ }
+    ensures { λ r. ⌜ r ≡ belongs (state (now (book .entry))) e i ⌝ }
+{
+    if book::get(book, NUMBERS, i) == 0 {
+        return false;
+    }
+    let kind = book::get(book, KINDS, i);
+    if kind == 7 {
+        return book::get(book, OBJECTS, i) == e as u64;
+    }
+    if kind != 6 {
+        return false;
+    }
+    if book::get(book, PARTNERS, i) == 0 {
+        return false;
+    }
+    has_key_of(book, e, i)
+}
+
+fn does_none_belong(book: &[u8], e: usize) -> bool
+    requires { ⌜ (length (now book) ≡ bookLength) × (e < 64) ⌝ }
+    ensures { λ r. ⌜ r ≡ all (isNotOf (state (now (book .entry))) e) 256 0 ⌝ }
+{
+    let mut i: usize = 0;
+    while i < 256 {
+        if does_belong(book, e, i) {
+            return false;
+        }
+        i += 1;
+    }
+    true
+}
+
+// Is a used exposure of amount 0, with no row that belongs to it?
+fn is_idle(book: &[u8], e: usize) -> bool
+    requires { ⌜ (length (now book) ≡ bookLength) × (e < 64) ⌝ }
+    ensures { λ r. ⌜ r ≡ isIdle (state (now (book .entry))) e ⌝ }
+{
+    if book::get(book, USEDS, e) != 1 {
+        return false;
+    }
+    if book::get(book, EXPOSURES, e) != 0 {
+        return false;
+    }
+    does_none_belong(book, e)
+}
+
+// Frees an exposure that is idle.
+fn free_exposure(book: &mut [u8], e: usize)
+    requires { ⌜ (length (now book) ≡ bookLength) × (e < 64) ⌝ }
+    ensures { λ _. ⌜ state (now (book .exit)) ≡ tried isIdle exposureFreed (state (now (book .entry))) e ⌝ }
+{
+    if is_idle(book, e) {
+        clear(book, 5, USEDS, e);
+    }
+}
+
+fn free_exposures(book: &mut [u8])
+    requires { ⌜ length (now book) ≡ bookLength ⌝ }
+    ensures { λ _. ⌜ state (now (book .exit)) ≡ exposuresFreed (state (now (book .entry))) ⌝ }
+{
+    let mut e: usize = 0;
+    while e < 64 {
+        free_exposure(book, e);
+        e += 1;
+    }
+}
+
+// 12: the step.
+pub fn next_day(book: &mut [u8]) -> Totals
+    requires { ⌜ (length (now book) ≡ bookLength) × (sound (state (now book)) ≡ true) × (lowest (nextDayRules (state (now book))) ≡ 0) ⌝ }
+    ensures { λ r. ⌜ (r ≡ totalsOf (nextDay (state (now (book .entry))))) × (state (now (book .exit)) ≡ nextDay (state (now (book .entry))) .state) ⌝ }
+{
+    let today = book::get(book, TODAY, 0);
+    let day = calendar::next_open_day(today);
+    let dropped = drop_rows(book, day);
+    book::set(book, TODAY, 0, day);
+    change_profiles(book);
+    let closed = close_exposures(book, day);
+    free_exposures(book);
+    Totals {
+        a: day,
+        b: dropped,
+        m: closed,
     }
 }

@@ -1,14 +1,15 @@
 -- `day_change::change_profiles` meets its contract: the profiles below `p` are changed.
 -- Assumes nothing.
-use mathlib.Core.Path.{_≡_, sym, _∙_}
-use Prim.Native.Nat.{ℕ, _-_, _≤_}
+use mathlib.Core.Path.{_≡_, sym}
+use Prim.Native.Nat.{_-_, _≤_}
 use native.Mathlib.Omega.{arith}
 use lib.ListN.{length}
 use Rattle.book.specs.Layout.{bookLength}
 use Rattle.book.specs.State.{state}
 use Rattle.rules.specs.DayChange.{onEach, changeTakesEffect, profilesChanged}
+use Rattle.day_laws.proofs.Each.{no-turn}
 use Rattle.day_change.specs.Parts.{profileWaits}
-use Rattle.day_change.proofs.OnEach.{each-none, loop-steps}
+use Rattle.day_change.proofs.OnEach.{loop-steps}
 use Rattle.day_change.proofs.Rows.{profiles-apart}
 use borrow.Author.Needs.{needs}
 use Rattle.day_change.proofs.change_profiles.Statement.{statement}
@@ -23,7 +24,7 @@ abbrev μ-loop : tie.MeasureT-loop
 loop-holds : tie.Need-loop-holds Inv-loop μ-loop
 loop-holds c =
     let first = state (c .before .args .book .now) in
-    (omega arith, c .before .pre, sym (each-none (profileWaits first) changeTakesEffect first))
+    (omega arith, c .before .pre, sym (no-turn (profileWaits first) changeTakesEffect first))
 
 change-profile-requires : tie.Need-change-profile-requires Inv-loop μ-loop
 change-profile-requires c κs = (c .before .before .loop .inv .1, omega arith)

@@ -1,6 +1,6 @@
 -- `day_change::drop_row` meets its contract.
 -- Assumes nothing.
-use mathlib.Core.Path.{_≡_, sym, _∙_}
+use mathlib.Core.Path.{sym, _∙_}
 use Rattle.book.specs.State.{state}
 use Rattle.rules.specs.DayChange.{blanked}
 use Rattle.day_change.specs.Parts.{dropsOn}

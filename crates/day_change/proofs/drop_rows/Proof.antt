@@ -1,19 +1,19 @@
 -- `day_change::drop_rows` meets its contract: the rows below `i` are dropped and counted, and the rest of the count is to come.
 -- Assumes nothing.
-use mathlib.Core.Path.{_≡_, refl, sym, ap, _∙_}
-use mathlib.Core.Bool.{Bool, cond}
-use Prim.Native.Nat.{ℕ, _+_, _-_, _≤_}
+use mathlib.Core.Path.{_≡_, sym}
+use Prim.Native.Nat.{_+_, _-_, _≤_}
 use native.Mathlib.Nat.{zero-add}
 use native.Mathlib.Omega.{arith}
 use lib.ListN.{length}
 use Rattle.laws.specs.Search.{count}
 use Rattle.laws.proofs.Least.{count-le, count-end}
 use Rattle.book.specs.Layout.{bookLength}
-use Rattle.book.specs.State.{State, state}
+use Rattle.book.specs.State.{state}
 use Rattle.facts.proofs.Facts.{sound-facts}
-use Rattle.rules.specs.DayChange.{isDropped, blanked, onEach, rowsDropped}
-use Rattle.day_change.specs.Parts.{dropsOn, ReturnNamed}
-use Rattle.day_change.proofs.OnEach.{each-none, loop-steps, loop-counts}
+use Rattle.rules.specs.DayChange.{blanked, onEach, rowsDropped}
+use Rattle.day_laws.proofs.Each.{no-turn}
+use Rattle.day_change.specs.Parts.{dropsOn}
+use Rattle.day_change.proofs.OnEach.{loop-steps, loop-counts}
 use Rattle.day_change.proofs.Rows.{rows-apart, later-named, sound-named}
 use borrow.Author.Needs.{needs}
 use Rattle.day_change.proofs.drop_rows.Statement.{statement}
@@ -33,7 +33,7 @@ loop-holds : tie.Need-loop-holds Inv-loop μ-loop
 loop-holds c =
     let s = c .before in
     let t = dropsOn (s .args .day) (state (s .args .book .now)) in
-    (omega arith, s .pre .0, zero-add (count t 256 0), sym (each-none t blanked (state (s .args .book .now))))
+    (omega arith, s .pre .0, zero-add (count t 256 0), sym (no-turn t blanked (state (s .args .book .now))))
 
 drop-row-requires : tie.Need-drop-row-requires Inv-loop μ-loop
 drop-row-requires c κs =
