@@ -1,39 +1,27 @@
 -- Exposures freed: an idle one, of amount 0 and with no row that belongs to it, leaves every row its exposure.
--- Assumes one-choice.
-use mathlib.Core.Path.{_≡_, refl, sym, ap, _∙_}
-use mathlib.Core.Bool.{Bool, true, false, not, _&&_, _||_, cond}
+-- Assumes nothing.
+use mathlib.Core.Path.{_≡_, refl, sym}
+use mathlib.Core.Bool.{Bool, true, false, not, _&&_, cond}
 use mathlib.Core.List.{List, [], _∷_}
 use mathlib.Core.Logic.{⊎-elim}
-use Prim.Native.Nat.{ℕ, zero, suc, _+_, _*_, _-_, _≤_, _<_}
+use Prim.Native.Nat.{ℕ, _+_, _*_, _≤_, _<_}
 use native.Mathlib.Omega.{arith}
 use lib.Dec.{eqb, ltb}
-use borrow.Author.Tests.{eqb-true, eq-eqb, ne-eqb, lt-ltb, le-ltb, ltb-true, not-true}
-use Rattle.laws.specs.Search.{all, least}
-use Rattle.laws.specs.Sum.{sum}
-use Rattle.laws.proofs.Cases.{either, clash, or-left, or-right}
-use Rattle.laws.proofs.Least.{least-hit, least-miss, least-none}
+use borrow.Author.Tests.{eqb-true, eq-eqb, le-ltb, not-true}
+use Rattle.laws.specs.Search.{all}
+use Rattle.laws.proofs.Cases.{either, clash, or-right}
 use Rattle.laws.proofs.Sum.{sum-same}
 use Rattle.book.specs.Layout.{kinds, givers, takers, objects, closings, useds, exposureGivers, exposureTakers, exposureBaskets, exposureClosings, exposures, positions}
-use Rattle.book.specs.State.{State, Fits, put}
+use Rattle.book.specs.State.{State}
 use Rattle.rules.specs.DayChange.{onEach, belongs, isIdle, exposureFreed, exposuresFreed}
 use Rattle.rules.specs.Requests.{isUsed, isFop, isReturn, isPaired, hasKey, exposureOfFop}
 use Rattle.rules.specs.Sound.{soundKind, soundPaired, soundRow, soundExposure, otherKey, distinctKey, soundPosition, positionFrom, holding}
 use Rattle.facts.proofs.Facts.{Sound, all-of, below}
 use Rattle.facts.proofs.Keeps.{Good}
-use Rattle.facts.proofs.Rows.{Kind, fop, return, Stocked, used-fields, no-exposure-sound, position-facts}
-use Rattle.facts.proofs.Truth.{split, join}
-use Rattle.day_laws.proofs.Each.{passed, remade, cleared-fits, among, stored-row, each-ahead, each-remade}
-
--- tests that agree on a range have the same least number
-pub least-same : (t u : ℕ → Bool) (n i : ℕ) → ((j : ℕ) → i ≤ j → j < i + n → t j ≡ u j) → least t n i ≡ least u n i
-least-same t u zero i h = least-none t i ∙ sym (least-none u i)
-least-same t u (suc n) i h =
-    let later = least-same t u n (suc i) (λ j g l. h j (omega arith) (omega arith)) in
-    let here = h i (omega arith) (omega arith) in
-    ⊎-elim
-    (λ e. least-hit t n i e ∙ sym (least-hit u n i (sym here ∙ e)))
-    (λ e. least-miss t n i e ∙ later ∙ sym (least-miss u n i (sym here ∙ e)))
-    (either (t i))
+use Rattle.facts.proofs.Rows.{Kind, fop, return, used-fields, no-exposure-sound, position-facts}
+use Rattle.facts.proofs.Truth.{Each, split}
+use Rattle.day_laws.proofs.Least.{least-same}
+use Rattle.day_laws.proofs.Remade.{remade, cleared-fits, among, stored-row, passed, row-ahead, turns-remade}
 
 -- a choice between one number and itself
 one-choice : (x : ℕ) (b : Bool) → cond b x x ≡ x
@@ -48,21 +36,23 @@ freedTables = exposureClosings ∷ exposureBaskets ∷ exposureTakers ∷ exposu
 abbrev pub freed : State → (ℕ → Bool) → State
 freed s done = remade (among freedTables) (λ row f. 0) done s
 
+-- n turns: the idle exposures passed are free
 pub exposures-turned : (s : State) (n : ℕ) → onEach (isIdle s) exposureFreed n s ≡ freed s (passed (isIdle s) n)
-exposures-turned s n = each-remade (among freedTables) (λ row f. 0) s (isIdle s) exposureFreed (stored-row (λ row f. 0) freedTables) n
+exposures-turned s n = turns-remade (among freedTables) (λ row f. 0) (isIdle s) exposureFreed (stored-row (λ row f. 0) freedTables) s n
 
 -- what idle says
 module _ (s : State) (e : ℕ) (idle : isIdle s e ≡ true) where
+  clauses : Each (eqb (s useds e) 1 ∷ eqb (s exposures e) 0 ∷ all (λ i. not (belongs s e i)) 256 0 ∷ [])
+  clauses = split (eqb (s useds e) 1 ∷ eqb (s exposures e) 0 ∷ all (λ i. not (belongs s e i)) 256 0 ∷ []) idle
+
   pub idle-used : s useds e ≡ 1
-  idle-used = eqb-true (s useds e) 1 (split (eqb (s useds e) 1 ∷ eqb (s exposures e) 0 ∷ all (λ i. not (belongs s e i)) 256 0 ∷ []) idle .0)
+  idle-used = eqb-true (s useds e) 1 (clauses .0)
 
   pub idle-amount : s exposures e ≡ 0
-  idle-amount = eqb-true (s exposures e) 0 (split (eqb (s useds e) 1 ∷ eqb (s exposures e) 0 ∷ all (λ i. not (belongs s e i)) 256 0 ∷ []) idle .1 .0)
+  idle-amount = eqb-true (s exposures e) 0 (clauses .1 .0)
 
   pub idle-row : (i : ℕ) → i < 256 → belongs s e i ≡ false
-  idle-row i l =
-      not-true (belongs s e i)
-      (below (λ i. not (belongs s e i)) 256 (split (eqb (s useds e) 1 ∷ eqb (s exposures e) 0 ∷ all (λ i. not (belongs s e i)) 256 0 ∷ []) idle .1 .1) i l)
+  idle-row i l = not-true (belongs s e i) (below (λ i. not (belongs s e i)) 256 (clauses .1 .1) i l)
 
   -- "an exposure of amount 0 has no position"
   pub idle-position : Sound s → e < 64 → (i : ℕ) → i < 64 → s positions (64 * e + i) ≡ 0
@@ -85,6 +75,7 @@ module _ (s : State) (h : Sound s) (done : ℕ → Bool) (only : (e : ℕ) → d
       (λ (d : done e ≡ false). rw d)
       (either (done e))
 
+  -- so each row's clauses hold as before
   kind-kept : (i : ℕ) → i < 256 → isUsed s i ≡ true → soundKind (freed s done) i ≡ soundKind s i
   kind-kept i l u =
       ⊎-elim
@@ -133,6 +124,7 @@ module _ (s : State) (h : Sound s) (done : ℕ → Bool) (only : (e : ℕ) → d
       (λ (d : done e ≡ false). rw d (h .exposure e l))
       (either (done e))
 
+  -- keys stay distinct among the exposures left
   key-other : (e c : ℕ) → done e ≡ false → otherKey s e c ≡ true → otherKey (freed s done) e c ≡ true
   unfolding all
   key-other e c d k = ⊎-elim (λ (a : done c ≡ true). rw a) (λ (a : done c ≡ false). rw (d, a) k) (either (done c))
@@ -156,6 +148,7 @@ module _ (s : State) (h : Sound s) (done : ℕ → Bool) (only : (e : ℕ) → d
       (λ (d : done e ≡ false). rw d (h .position e i l m))
       (either (done e))
 
+  -- no bonds stood in what is freed
   freed-from : (p i e : ℕ) → e < 64 → i < 64 → positionFrom (freed s done) p i e ≡ positionFrom s p i e
   freed-from p i e l m =
       ⊎-elim
@@ -196,14 +189,16 @@ module _ (s : State) (g : Good s) (n : ℕ) where
   pub exposures-turned-holding : (p i : ℕ) → i < 64 → holding (onEach (isIdle s) exposureFreed n s) p i ≡ holding s p i
   exposures-turned-holding p i l = rw (exposures-turned s n) (freed-holding s (g .facts) (passed (isIdle s) n) passed-idle p i l)
 
+module _ (s : State) (n : ℕ) where
   -- exposures to come are as they were, and are told by the same test
   pub exposure-ahead : (f e : ℕ) → n ≤ e → onEach (isIdle s) exposureFreed n s f e ≡ s f e
-  exposure-ahead f e l = each-ahead (among freedTables) (λ row f. 0) s (isIdle s) exposureFreed (stored-row (λ row f. 0) freedTables) n f e l
+  exposure-ahead f e l = row-ahead (among freedTables) (λ row f. 0) (isIdle s) exposureFreed (stored-row (λ row f. 0) freedTables) s n f e l
 
   pub idle-ahead : (e : ℕ) → n ≤ e → isIdle (onEach (isIdle s) exposureFreed n s) e ≡ isIdle s e
   idle-ahead e l = let no : ltb e n ≡ false = le-ltb e n l in rw (exposures-turned s n, no)
 
 module _ (s : State) (g : Good s) where
+  -- all 64 turns
   pub exposures-freed-good : Good (exposuresFreed s)
   unfolding exposuresFreed
   exposures-freed-good = exposures-turned-good s g 64
@@ -212,6 +207,7 @@ module _ (s : State) (g : Good s) where
   unfolding exposuresFreed
   exposures-freed-holding p i l = exposures-turned-holding s g 64 p i l
 
+module _ (s : State) where
   -- the amounts stay, and an exposure in use was in use
   pub exposures-freed-amount : (e : ℕ) → exposuresFreed s exposures e ≡ s exposures e
   unfolding exposuresFreed

@@ -1,19 +1,18 @@
 -- The new day and the profiles that come into force: the day is open, and whoever is set up stays so.
 -- Assumes nothing.
-use mathlib.Core.Path.{_≡_, refl, sym, ap, _∙_}
-use mathlib.Core.Bool.{Bool, true, false, not, _&&_, _||_, cond}
+use mathlib.Core.Path.{_≡_}
+use mathlib.Core.Bool.{Bool, true, false, not, _||_, cond}
 use mathlib.Core.List.{List, [], _∷_}
 use mathlib.Core.Logic.{⊎-elim}
-use Prim.Native.Nat.{ℕ, zero, suc, _+_, _-_, _≤_, _<_}
+use Prim.Native.Nat.{ℕ, _+_, _-_, _≤_, _<_}
 use native.Mathlib.Omega.{arith}
 use lib.Dec.{eqb, ltb}
-use borrow.Author.Tests.{eqb-true, eqb-false, eq-eqb, ne-eqb, ltb-true, ltb-false, not-true}
-use Rattle.laws.specs.Search.{all, least}
+use borrow.Author.Tests.{ltb-true, ltb-false, not-true}
+use Rattle.laws.specs.Search.{all}
 use Rattle.laws.proofs.Cases.{either, clash, or-cases}
-use Rattle.laws.proofs.Least.{least-hit, least-miss, least-none}
 use Rattle.calendar.specs.Target.{openDay, nextOpenDay, lastDay}
 use Rattle.calendar.proofs.OpenDays.{open-within}
-use Rattle.book.specs.Layout.{today, tolerance, nextNumber, modes, lists, partials, waitingModes, waitingLists, waitingPartials, givers, takers, exposureGivers, exposureTakers}
+use Rattle.book.specs.Layout.{today, modes, lists, partials, waitingModes, waitingLists, waitingPartials, givers, takers, exposureGivers, exposureTakers}
 use Rattle.book.specs.State.{State, Fits, put}
 use Rattle.book.proofs.Images.{put-fits}
 use Rattle.rules.specs.Codes.{nextDayRules}
@@ -23,19 +22,11 @@ use Rattle.rules.specs.Sound.{soundProfile, soundParticipant, soundRow, soundEx
 use Rattle.rules.specs.Stock.{participantSetUp}
 use Rattle.facts.proofs.Facts.{Sound}
 use Rattle.facts.proofs.Keeps.{Good}
-use Rattle.facts.proofs.Rows.{Head, head-facts, facts-head}
-use Rattle.facts.proofs.Truth.{split, join}
-use Rattle.day_laws.proofs.Each.{passed, remade, among, stored-row, stored-fits, each-keeps, each-ahead, each-remade}
-
--- the least number found passes the test
-pub least-holds : (t : ℕ → Bool) (n i : ℕ) → least t n i < i + n → t (least t n i) ≡ true
-least-holds t zero i l = absurd (omega (arith, least-none t i))
-least-holds t (suc n) i l =
-    let later = least-holds t n (suc i) in
-    ⊎-elim
-    (λ (e : t i ≡ true). rw (least-hit t n i e) e)
-    (λ (e : t i ≡ false). rw (least-miss t n i e) (later (omega (arith, least-miss t n i e))))
-    (either (t i))
+use Rattle.facts.proofs.Rows.{head-facts, facts-head}
+use Rattle.facts.proofs.Truth.{Each, split}
+use Rattle.day_laws.proofs.Each.{each-keeps}
+use Rattle.day_laws.proofs.Least.{least-holds}
+use Rattle.day_laws.proofs.Remade.{remade, among, stored-row, stored-fits, passed, row-ahead, turns-remade, tables-beside}
 
 -- an accepted next day is open
 module _ (s : State) (h : lowest (nextDayRules s) ≡ 0) where
@@ -54,7 +45,7 @@ module _ (s : State) (h : lowest (nextDayRules s) ≡ 0) where
       let now = open-within (s today 0) (head-facts s (f .head) .open-today) in
       least-holds openDay (lastDay - s today 0) (s today 0 + 1) (omega (arith, next-day-within))
 
--- the book on another open day
+-- the book on another open day: nothing stored is compared with today
 module _ (s : State) (g : Good s) (day : ℕ) (o : openDay day ≡ true) where
   pub new-day-good : Good (put s today 0 day)
   unfolding all holding
@@ -85,7 +76,7 @@ module _ (s : State) (g : Good s) (day : ℕ) (o : openDay day ≡ true) where
       }
 
 -- the tables of a participant, the last first; and a row of them once the profile that waits is in force
-abbrev profileTables : List ℕ
+abbrev pub profileTables : List ℕ
 profileTables = waitingPartials ∷ waitingLists ∷ waitingModes ∷ partials ∷ lists ∷ modes ∷ []
 
 abbrev inForce : (ℕ → ℕ) → ℕ → ℕ
@@ -99,15 +90,19 @@ waits s p = not (eqb (s waitingModes p) 0)
 abbrev pub changed : State → (ℕ → Bool) → State
 changed s done = remade (among profileTables) inForce done s
 
+-- n turns: the profiles that waited there are in force
 pub profiles-turned : (s : State) (n : ℕ) → onEach (waits s) changeTakesEffect n s ≡ changed s (passed (waits s) n)
-profiles-turned s n = each-remade (among profileTables) inForce s (waits s) changeTakesEffect (stored-row inForce profileTables) n
+profiles-turned s n = turns-remade (among profileTables) inForce (waits s) changeTakesEffect (stored-row inForce profileTables) s n
 
 module _ (s : State) (h : Sound s) (done : ℕ → Bool) (only : (p : ℕ) → done p ≡ true → (p < 32) × (waits s p ≡ true)) where
+  -- a participant's three clauses: the profile in force, the one that waits, and that it waits only where one is in force
+  clauses : (p : ℕ) → p < 32 → Each (soundProfile (s modes p) (s lists p) (s partials p) ∷ soundProfile (s waitingModes p) (s waitingLists p) (s waitingPartials p) ∷ (participantSetUp s p || eqb (s waitingModes p) 0) ∷ [])
+  clauses p l = split (soundProfile (s modes p) (s lists p) (s partials p) ∷ soundProfile (s waitingModes p) (s waitingLists p) (s waitingPartials p) ∷ (participantSetUp s p || eqb (s waitingModes p) 0) ∷ []) (h .participant p l)
+
   -- whoever has a profile waiting is set up
   waiting-known : (p : ℕ) → p < 32 → waits s p ≡ true → participantSetUp s p ≡ true
   waiting-known p l w =
-      let t = split (soundProfile (s modes p) (s lists p) (s partials p) ∷ soundProfile (s waitingModes p) (s waitingLists p) (s waitingPartials p) ∷ (participantSetUp s p || eqb (s waitingModes p) 0) ∷ []) (h .participant p l) in
-      ⊎-elim (λ k. k) (λ k. clash k (not-true (eqb (s waitingModes p) 0) w)) (or-cases (participantSetUp s p) (eqb (s waitingModes p) 0) (t .1 .1))
+      ⊎-elim (λ k. k) (λ k. clash k (not-true (eqb (s waitingModes p) 0) w)) (or-cases (participantSetUp s p) (eqb (s waitingModes p) 0) (clauses p l .1 .1))
 
   -- the same participants are set up
   set-up-same : (p : ℕ) → participantSetUp (changed s done) p ≡ participantSetUp s p
@@ -120,13 +115,11 @@ module _ (s : State) (h : Sound s) (done : ℕ → Bool) (only : (p : ℕ) → d
   changed-participant : (p : ℕ) → p < 32 → soundParticipant (changed s done) p ≡ true
   changed-participant p l =
       ⊎-elim
-      (λ (e : done p ≡ true).
-      let w = only p e .1 in
-      let t = split (soundProfile (s modes p) (s lists p) (s partials p) ∷ soundProfile (s waitingModes p) (s waitingLists p) (s waitingPartials p) ∷ (participantSetUp s p || eqb (s waitingModes p) 0) ∷ []) (h .participant p l) in
-      rw (e, t .1 .0, w))
+      (λ (e : done p ≡ true). rw (e, clauses p l .1 .0, only p e .1))
       (λ (e : done p ≡ false). rw e (h .participant p l))
       (either (done p))
 
+  -- so every party named is still set up
   changed-row : (i : ℕ) → i < 256 → soundRow (changed s done) i ≡ true
   unfolding all
   changed-row i l = rw (set-up-same (s givers i), set-up-same (s takers i)) (h .row i l)
@@ -166,15 +159,19 @@ module _ (s : State) (g : Good s) (n : ℕ) (few : n ≤ 32) where
       let only : (p : ℕ) → done p ≡ true → (p < 32) × (waits s p ≡ true) = λ p e. let t = split (ltb p n ∷ waits s p ∷ []) e in (omega (arith, ltb-true p n (t .0)), t .1) in
       record { facts = rw (profiles-turned s n) (changed-sound s (g .facts) done only); fits = turned-fits }
 
--- the profiles changed: the book is good, and no participant's bonds move
+-- the profiles changed: the book is good, no other table changes, and no participant's bonds move
 pub profiles-changed-good : (s : State) → Good s → Good (profilesChanged s)
 unfolding profilesChanged
 profiles-changed-good s g = profiles-turned-good s g 32 (omega arith)
+
+pub profiles-changed-beside : (s : State) (f i : ℕ) → among profileTables f ≡ false → profilesChanged s f i ≡ s f i
+unfolding profilesChanged
+profiles-changed-beside s f i m = tables-beside (among profileTables) inForce (waits s) changeTakesEffect (stored-row inForce profileTables) s 32 f i m
 
 pub profiles-changed-holding : (s : State) (p i : ℕ) → holding (profilesChanged s) p i ≡ holding s p i
 unfolding profilesChanged holding
 profiles-changed-holding s p i = rw (profiles-turned s 32)
 
--- while profiles change, those to come are as they were, and are told by the same test
+-- while profiles change, those to come are as they were, and so is whether one waits
 pub profile-ahead : (s : State) (n f p : ℕ) → n ≤ p → onEach (waits s) changeTakesEffect n s f p ≡ s f p
-profile-ahead s n f p l = each-ahead (among profileTables) inForce s (waits s) changeTakesEffect (stored-row inForce profileTables) n f p l
+profile-ahead s n f p l = row-ahead (among profileTables) inForce (waits s) changeTakesEffect (stored-row inForce profileTables) s n f p l

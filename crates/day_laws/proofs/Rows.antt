@@ -1,28 +1,27 @@
 -- Rows dropped: a row that is dropped holds nothing, and the others are as they were. Pairs are dropped together, so what is left is sound.
 -- Assumes nothing.
-use mathlib.Core.Path.{_≡_, refl, sym, ap, _∙_}
-use mathlib.Core.Bool.{Bool, true, false, not, _&&_, _||_, cond}
+use mathlib.Core.Path.{_≡_, _∙_}
+use mathlib.Core.Bool.{Bool, true, false}
 use mathlib.Core.List.{List, [], _∷_}
 use mathlib.Core.Logic.{⊎-elim}
-use Prim.Native.Nat.{ℕ, zero, suc, _+_, _≤_, _<_}
+use Prim.Native.Nat.{ℕ, _≤_, _<_}
 use native.Mathlib.Omega.{arith}
 use lib.Dec.{eqb, ltb}
-use borrow.Author.Tests.{eqb-true, eqb-false, eq-eqb, ne-eqb, lt-ltb, le-ltb, not-true}
+use borrow.Author.Tests.{eqb-false, ne-eqb, lt-ltb, le-ltb, not-true}
 use Rattle.laws.specs.Search.{all}
 use Rattle.laws.proofs.Cases.{either}
-use Rattle.laws.proofs.Least.{all-at}
 use Rattle.book.specs.Layout.{numbers, kinds, sides, givers, takers, objects, amounts, settlements, closings, references, settleds, partners, pairPartials, cancels, ends}
-use Rattle.book.specs.State.{State, put}
+use Rattle.book.specs.State.{State}
 use Rattle.rules.specs.DayChange.{onEach, isDropped, blanked, rowsDropped}
 use Rattle.rules.specs.Requests.{isUsed, isPaired, partnerOf}
 use Rattle.rules.specs.Sound.{soundRow, differs, distinctNumber, holding}
 use Rattle.facts.proofs.Facts.{Sound, all-of, below}
 use Rattle.facts.proofs.Keeps.{Good}
 use Rattle.facts.proofs.Rows.{Pair, unused-blank, used-paired}
-use Rattle.day_laws.proofs.Each.{passed, remade, remade-not, cleared-fits, among, stored, stored-row, each-ahead, each-remade}
+use Rattle.day_laws.proofs.Remade.{remade, cleared-fits, among, stored-row, passed, row-ahead, turns-remade, tables-beside}
 
 -- the tables of a request, the last first
-abbrev requestTables : List ℕ
+abbrev pub requestTables : List ℕ
 requestTables =
     ends ∷ cancels ∷ pairPartials ∷ partners ∷ settleds ∷ references ∷ closings ∷ settlements ∷ amounts ∷ objects ∷ takers ∷ givers ∷ sides ∷ kinds ∷ numbers ∷ []
 
@@ -32,7 +31,7 @@ without s done = remade (among requestTables) (λ row f. 0) done s
 
 -- n turns: the rows passed are gone
 pub rows-turned : (s : State) (day n : ℕ) → onEach (isDropped s day) blanked n s ≡ without s (passed (isDropped s day) n)
-rows-turned s day n = each-remade (among requestTables) (λ row f. 0) s (isDropped s day) blanked (stored-row (λ row f. 0) requestTables) n
+rows-turned s day n = turns-remade (among requestTables) (λ row f. 0) (isDropped s day) blanked (stored-row (λ row f. 0) requestTables) s n
 
 -- a row that is paired is used, and so is its partner
 module _ (s : State) (h : Sound s) (i : ℕ) (l : i < 256) where
@@ -121,14 +120,19 @@ module _ (s : State) (g : Good s) (day : ℕ) where
       λ i l p. rw (lt-ltb (partnerOf s i) 256 (pair-of s (g .facts) i l p .partner-below), lt-ltb i 256 l) (dropped-together s (g .facts) day i l p) in
       rw (rows-turned s day 256) (record { facts = left-sound s (g .facts) done pair; fits = cleared-fits (among requestTables) done s (g .fits) })
 
-  -- no participant's bonds move
+module _ (s : State) (day : ℕ) where
+  -- no other table changes, and no participant's bonds move
+  pub rows-dropped-beside : (f i : ℕ) → among requestTables f ≡ false → rowsDropped s day f i ≡ s f i
+  unfolding rowsDropped
+  rows-dropped-beside f i m = tables-beside (among requestTables) (λ row f. 0) (isDropped s day) blanked (stored-row (λ row f. 0) requestTables) s 256 f i m
+
   pub rows-dropped-holding : (p i : ℕ) → holding (rowsDropped s day) p i ≡ holding s p i
   unfolding rowsDropped holding
   rows-dropped-holding p i = rw (rows-turned s day 256)
 
   -- while rows are dropped, the rows to come are as they were, and are told by the same test
-  pub row-ahead : (n f i : ℕ) → n ≤ i → onEach (isDropped s day) blanked n s f i ≡ s f i
-  row-ahead n f i l = each-ahead (among requestTables) (λ row f. 0) s (isDropped s day) blanked (stored-row (λ row f. 0) requestTables) n f i l
+  pub request-ahead : (n f i : ℕ) → n ≤ i → onEach (isDropped s day) blanked n s f i ≡ s f i
+  request-ahead n f i l = row-ahead (among requestTables) (λ row f. 0) (isDropped s day) blanked (stored-row (λ row f. 0) requestTables) s n f i l
 
   pub dropped-ahead : (n i : ℕ) → n ≤ i → isDropped (onEach (isDropped s day) blanked n s) day i ≡ isDropped s day i
   dropped-ahead n i l = let no : ltb i n ≡ false = le-ltb i n l in rw (rows-turned s day n, no)
