@@ -13,7 +13,6 @@ use Rattle.book.specs.Layout.{modes, lists, partials, waitingModes, waitingList
 use Rattle.book.specs.State.{State, put}
 use Rattle.rules.specs.DayChange.{isDropped, blanked, changeTakesEffect, onEach}
 use Rattle.rules.specs.Requests.{isUsed}
-use Rattle.rules.specs.Sound.{sound}
 use Rattle.facts.proofs.Facts.{Sound}
 use Rattle.facts.proofs.Rows.{Kind, fop, return, used-fields, unused-blank}
 use Rattle.sound_setup.specs.Rows.{InRows}

@@ -25,7 +25,7 @@ profileWaits s p = not (eqb (s waitingModes p) 0)
 abbrev pub closesOn : ℕ → State → ℕ → Bool
 closesOn day s e = isExposureClosed s day e
 
--- the row i holds nothing in n tables from one on
+-- the state whose row i holds nothing in n tables from one on
 unfoldable pub cleared : State → ℕ → ℕ → ℕ → State
 cleared s zero from i = s
 cleared s (suc n) from i = put (cleared s n from i) (from + n) i 0

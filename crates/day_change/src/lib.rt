@@ -5,7 +5,7 @@ ghost use mathlib.Core.Bool.{true, cond};
 ghost use Prim.Native.Nat.{_+_, _*_, _<_};
 ghost use lib.ListN.{length};
 ghost use Rattle.laws.specs.Search.{all, count};
-ghost use Rattle.book.specs.Layout.{bookLength, tableCount, rowsOf, widthOf, useds};
+ghost use Rattle.book.specs.Layout.{bookLength, tableCount, rowsOf, widthOf, today, useds};
 ghost use Rattle.book.specs.State.{state, put};
 ghost use Rattle.rules.specs.Codes.{nextDayRules};
 ghost use Rattle.rules.specs.DayChange.{isReached, isDone, isClosed, isDropped, blanked, rowsDropped, changeTakesEffect, profilesChanged, isExposureClosed, exposureClosed, exposuresClosed, belongs, isIdle, exposureFreed, exposuresFreed, nextDay};
@@ -66,9 +66,9 @@ fn is_reached(day: u64, closing: u64) -> bool
     closing <= day
 }
 
-// Has a row settled or ended, or waited unpaired up to today?
-fn is_done(book: &[u8], i: usize) -> bool
-    requires { ⌜ (length (now book) ≡ bookLength) × (i < 256) ⌝ }
+// Has a row settled or ended, or waited unpaired up to the day, which is today?
+fn is_done(book: &[u8], day: u64, i: usize) -> bool
+    requires { ⌜ (length (now book) ≡ bookLength) × (i < 256) × (day ≡ state (now book) today 0) ⌝ }
     ensures { λ r. ⌜ r ≡ isDone (state (now (book .entry))) i ⌝ }
 {
     if book::get(book, AMOUNTS, i) <= book::get(book, SETTLEDS, i) {
@@ -80,7 +80,7 @@ fn is_done(book: &[u8], i: usize) -> bool
     if book::get(book, PARTNERS, i) != 0 {
         return false;
     }
-    book::get(book, SETTLEMENTS, i) <= book::get(book, TODAY, 0)
+    book::get(book, SETTLEMENTS, i) <= day
 }
 
 // Is the closing date of a FOP pair reached, or that of the exposure that a return names?
@@ -109,7 +109,8 @@ fn is_dropped(book: &[u8], day: u64, i: usize) -> bool
     if book::get(book, NUMBERS, i) == 0 {
         return false;
     }
-    if is_done(book, i) {
+    let today = book::get(book, TODAY, 0);
+    if is_done(book, today, i) {
         return true;
     }
     is_closed(book, day, i)
@@ -127,7 +128,7 @@ fn clear(book: &mut [u8], n: usize, from: usize, i: usize)
     }
 }
 
-// Drops a row where it is to be dropped: the count of rows dropped.
+// Drops a row that is to be dropped: 1 where it was, else 0.
 fn drop_row(book: &mut [u8], day: u64, i: usize) -> u64
     requires { ⌜ (length (now book) ≡ bookLength) × (i < 256) × ReturnNamed (state (now book)) i ⌝ }
     ensures { λ r. ⌜ (r ≡ cond (isDropped (state (now (book .entry))) day i) 1 0) × (state (now (book .exit)) ≡ tried (dropsOn day) blanked (state (now (book .entry))) i) ⌝ }
@@ -273,7 +274,8 @@ fn does_belong(book: &[u8], e: usize, i: usize) -> bool
     if kind != 6 {
         return false;
     }
-    if book::get(book, PARTNERS, i) == 0 {
+    let partner = book::get(book, PARTNERS, i);
+    if partner == 0 {
         return false;
     }
     has_key_of(book, e, i)

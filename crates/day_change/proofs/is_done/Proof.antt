@@ -29,9 +29,6 @@ returns-3 c = search done-not
 get-requires-5 : tie.Need-get-requires-5
 get-requires-5 c κs = search needs
 
-get-requires-6 : tie.Need-get-requires-6
-get-requires-6 c κs = search needs
-
 returns-4 : tie.Need-returns-4
 returns-4 c = search by-settlement
 
@@ -47,5 +44,4 @@ is-done-spec =
     get-requires-4
     returns-3
     get-requires-5
-    get-requires-6
     returns-4)

@@ -11,6 +11,9 @@ get-requires c κs = search needs
 returns : tie.Need-returns
 returns c = search drop-unused
 
+get-requires-2 : tie.Need-get-requires-2
+get-requires-2 c κs = search needs
+
 is-done-requires : tie.Need-is-done-requires
 is-done-requires c κs = search needs
 
@@ -26,4 +29,4 @@ returns-3 c = search by-closed
 pub is-dropped-spec : {M : Type 1} → statement M
 is-dropped-spec =
     tie.close
-    (tie.spec get-requires returns is-done-requires returns-2 is-closed-requires returns-3)
+    (tie.spec get-requires returns get-requires-2 is-done-requires returns-2 is-closed-requires returns-3)
