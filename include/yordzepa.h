@@ -1,8 +1,11 @@
 /*
- * yordzepa.h: the calendar, valuation, baskets, picking and records of the pledged-bond book.
+ * yordzepa.h: the pledged-bond book, and the calendar, valuation, baskets, picking and records
+ * that it stands on.
  *
- * The functions are in five static libraries for x86-64, which can be linked singly or together:
+ * The functions are in seven static libraries for x86-64, which can be linked singly or together:
  *
+ *   libengine.a      engine_call
+ *   libreads.a       reads_account, reads_position, reads_exposure, reads_request, reads_basket
  *   libcalendar.a    calendar_is_open, calendar_next_open_day, calendar_price_age
  *   libvaluation.a   valuation_value
  *   libbaskets.a     baskets_report
@@ -19,7 +22,7 @@
  *
  * Every function answers for all values of its numbers: each call that keeps the rules below ends
  * and gives the answer that is described here. A refused call has its code in the answer, 0 in all
- * other members of the answer, and writes to no memory that was lent.
+ * other numbers of the answer, and writes to no other memory that was lent.
  *
  * Rules for the caller:
  *
@@ -48,18 +51,53 @@ extern "C" {
 enum yordzepa_code {
     /* Accepted. */
     YORDZEPA_OK = 0,
+    /* A book of another length than YORDZEPA_BOOK. */
+    YORDZEPA_LENGTH = 1,
+    /* A book that is not sound; not tested for an opening. */
+    YORDZEPA_UNSOUND = 2,
     /* No kind or an unknown kind, or a record of another length than its kind has. */
     YORDZEPA_SHAPE = 3,
-    /* A field out of its range. */
+    /* A field out of its range, or a recall of a security not in its whole lots. */
     YORDZEPA_RANGE = 4,
-    /* A day that is not open or is above YORDZEPA_LAST_DAY, a quote after today, or no next day. */
-    YORDZEPA_DAY = 7
+    /* A participant, security or basket that is not set up; in a read, a row not in use. */
+    YORDZEPA_UNKNOWN = 5,
+    /* A basket set up again, or a price with another lot. */
+    YORDZEPA_AGAIN = 6,
+    /* A day that is not open or is above YORDZEPA_LAST_DAY, a quote after today, a settlement before
+     * today, a closing not after the settlement, or no next day. */
+    YORDZEPA_DAY = 7,
+    /* The giver is the taker. */
+    YORDZEPA_SAME_PARTY = 8,
+    /* A taker's own request where it accepts that giver automatically. */
+    YORDZEPA_AUTOMATIC = 9,
+    /* More than the account or position holds. */
+    YORDZEPA_TOO_MUCH = 10,
+    /* A deposit that takes account plus positions above 500,000,000. */
+    YORDZEPA_TOO_LARGE = 11,
+    /* No such live request of that owner, or no used exposure of that giver (and taker). */
+    YORDZEPA_NONE_SUCH = 12,
+    /* A cancel of a request that has settled in part or whole. */
+    YORDZEPA_SETTLED = 13,
+    /* Too few request rows, or request numbers above 999,999,999. */
+    YORDZEPA_NO_ROW = 14,
+    /* A pair that needs an exposure row, and none is free. */
+    YORDZEPA_NO_EXPOSURE = 15,
+    /* A recall that the substitutes do not cover. */
+    YORDZEPA_NOT_COVERED = 16
 };
 
 /*
  * The sizes.
  */
 enum yordzepa_size {
+    /* Bytes of a book. */
+    YORDZEPA_BOOK = 49152,
+    /* Numbers of the answers of a call and of each read, the code first. */
+    YORDZEPA_ANSWER = 4,
+    YORDZEPA_NOMINAL_ANSWER = 2,
+    YORDZEPA_EXPOSURE_ANSWER = 6,
+    YORDZEPA_REQUEST_ANSWER = 15,
+    YORDZEPA_BASKET_ANSWER = 5,
     /* Securities, numbered 0 to 63. */
     YORDZEPA_SECURITIES = 64,
     /* Columns of a table of securities: lots, prices, haircuts, quote days. */
@@ -267,6 +305,57 @@ struct yordzepa_reading records_read(const uint8_t *bytes, size_t length);
  */
 uint64_t records_write(uint64_t kind, const uint64_t fields[YORDZEPA_FIELDS], uint8_t *part,
                        size_t length);
+
+/* ---- The book ------------------------------------------------------------------------------- */
+
+/*
+ * Applies one record to a book. The book is YORDZEPA_BOOK bytes that the host keeps; it begins with
+ * an opening (kind 0), which is accepted whatever the book held. The record is as at records_read.
+ *
+ * The answer is code, A, B, M. A, B and M are 0 but for:
+ *
+ *   6 FOP, 7 return   A the request's number, B the number of the request it is paired with (or 0)
+ *   9 settle          A FOPs changed, B returns changed, M cents settled by both
+ *   10 mark           A exposures that gave back, B exposures that took in, M cents missing after
+ *   11 recall         B securities picked, M the value found in cents
+ *   12 next day       A the new day, B request rows dropped, M cents closed
+ *
+ * A refused call has its code, 1 to 16, in the answer and 0 in the other numbers, and leaves every
+ * byte of the book as it was.
+ */
+void engine_call(uint8_t *book, size_t book_length, const uint8_t *record, size_t record_length,
+                 uint64_t answer[YORDZEPA_ANSWER]);
+
+/*
+ * The reads. None changes the book. Each answer begins with the code, and its other numbers are 0
+ * in a refusal. Codes of all reads: 1, 2, 4 for a number out of its range, 5 for what is not set up
+ * or not in use.
+ */
+
+/* The nominal of one security in a participant's account: code, nominal. */
+void reads_account(const uint8_t *book, size_t book_length, uint64_t participant,
+                   uint64_t security, uint64_t answer[YORDZEPA_NOMINAL_ANSWER]);
+
+/* The nominal of one security in an exposure's position: code, nominal. */
+void reads_position(const uint8_t *book, size_t book_length, uint64_t exposure, uint64_t security,
+                    uint64_t answer[YORDZEPA_NOMINAL_ANSWER]);
+
+/* An exposure: code, giver, taker, basket, closing day (0 is open-ended), amount. */
+void reads_exposure(const uint8_t *book, size_t book_length, uint64_t exposure,
+                    uint64_t answer[YORDZEPA_EXPOSURE_ANSWER]);
+
+/*
+ * A request by its number: code, kind (6 or 7), side, giver, taker, basket or exposure, amount,
+ * settlement day, closing day (0 for a return), reference, settled amount, number of its partner
+ * (0 if unpaired), 1 if both parties allowed partial settlement when they paired, 1 if its owner
+ * has cancelled it while paired, 1 if it has ended.
+ */
+void reads_request(const uint8_t *book, size_t book_length, uint64_t number,
+                   uint64_t answer[YORDZEPA_REQUEST_ANSWER]);
+
+/* A basket: code, map, greatest age, how many securities it holds, the lowest of them. */
+void reads_basket(const uint8_t *book, size_t book_length, uint64_t basket,
+                  uint64_t answer[YORDZEPA_BASKET_ANSWER]);
 
 #ifdef __cplusplus
 }

@@ -4,7 +4,7 @@ use mathlib.Core.Path.{_≡_}
 use Prim.Native.Nat.{ℕ, _+_, _<_}
 use Rattle.book.specs.Layout.{useds, exposures}
 use Rattle.book.specs.State.{State, Fits}
-use Rattle.rules.specs.Ledger.{Paper, allNoted}
+use Rattle.facts.proofs.Sums.{Sums, allNoted}
 use Rattle.rules.specs.Outcome.{Step}
 use Rattle.rules.specs.Sound.{holding}
 use Rattle.facts.proofs.Facts.{Sound}
@@ -15,11 +15,11 @@ pub record Good (s : State) : Type 0 where
   pub fits : Fits s
 
 -- each used exposure's amount is what was settled into it, less what was returned and closed
-abbrev pub Amounts : State → Paper → Type 0
+abbrev pub Amounts : State → Sums → Type 0
 Amounts s p = (e : ℕ) → e < 64 → s useds e ≡ 1 → p .returns e + p .closes e + s exposures e ≡ p .settledIn e
 
 -- what every step but an opening, a deposit and a withdrawal keeps
 pub record Keeps (s : State) (t : Step) : Type 0 where
   pub good : Good (t .state)
   pub bonds : (p i : ℕ) → p < 32 → i < 64 → holding (t .state) p i ≡ holding s p i
-  pub amounts : (p : Paper) → Amounts s p → Amounts (t .state) (allNoted p (t .events))
+  pub amounts : (p : Sums) → Amounts s p → Amounts (t .state) (allNoted p (t .events))

@@ -19,7 +19,7 @@ use Rattle.book.specs.Layout.{lots, useds, exposureGivers, exposures, accounts,
 use Rattle.book.specs.State.{State}
 use Rattle.records.specs.Writing.{areLegal}
 use Rattle.rules.specs.Codes.{recallRules}
-use Rattle.rules.specs.Ledger.{allNoted}
+use Rattle.facts.proofs.Sums.{allNoted}
 use Rattle.rules.specs.Marking.{onExposures, ineligibleOf, ineligibleBack, excessBack, shortfallIn, givenBack, searched, marked, oneNominal, recalled, substitutes, substituted, recall}
 use Rattle.rules.specs.Outcome.{Step, Rule, rule, lowest, field}
 use Rattle.rules.specs.Sound.{holding}

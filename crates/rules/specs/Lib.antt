@@ -1,7 +1,6 @@
 pub mod Call
 pub mod Codes
 pub mod DayChange
-pub mod Ledger
 pub mod Marking
 pub mod Outcome
 pub mod Reads

@@ -1,0 +1,87 @@
+-- Where bonds may move: what a good book gives, and that the securities' columns depend on the securities alone.
+-- Assumes nothing.
+use mathlib.Core.Path.{_≡_, refl, sym, ap, _∙_}
+use mathlib.Core.Bool.{Bool}
+use mathlib.Core.List.{List}
+use Prim.Native.Nat.{ℕ, zero, suc, _+_, _*_, _/_, _%_, _≤_, _<_}
+use native.Mathlib.Nat.{le-refl}
+use native.Mathlib.Omega.{arith}
+use lib.ListN.{length, getD}
+use lib.Seq.{ext-getD}
+use Rattle.laws.specs.Filled.{filled}
+use Rattle.laws.proofs.Filled.{filled-length, filled-at}
+use Rattle.book.specs.Layout.{lots, prices, haircuts, quotes, useds, exposureGivers, accounts, positions}
+use Rattle.book.specs.State.{State, columnsOf, Lowerable}
+use Rattle.rules.specs.Stock.{positionOf, pickFor, freeFor}
+use Rattle.facts.proofs.Keeps.{Good}
+use Rattle.facts.proofs.Rows.{used-exposure}
+use Rattle.facts.proofs.Stock.{columns-bounded, columns-quoted, today-le, age-le, account-within, position-within, position-at}
+use Rattle.bond_laws.proofs.Lots.{pick-pledgeable, free-returnable, pledge-lowerable, giveBack-lowerable}
+use Rattle.bond_laws.proofs.Moving.{pledge-raisable, giveBack-raisable}
+use Rattle.bonds.specs.Moves.{Pledging, GivingBack, Pickable, Freeable}
+
+-- lists filled by rules that agree
+filled-same : (f g : ℕ → ℕ) (n : ℕ) → ((i : ℕ) → i < n → f i ≡ g i) → filled f n n ≡ filled g n n
+filled-same f g n h =
+    ext-getD 0 (filled f n n) (filled g n n) (filled-length f n n ∙ sym (filled-length g n n))
+    (λ i l.
+    let b : i < n = omega (arith, filled-length f n n) in
+    filled-at f n n i (le-refl n) b ∙ h i b ∙ sym (filled-at g n n i (le-refl n) b))
+
+-- the same securities, the same columns
+module _ (s t : State) (lot : (i : ℕ) → t lots i ≡ s lots i) (price : (i : ℕ) → t prices i ≡ s prices i) (haircut : (i : ℕ) → t haircuts i ≡ s haircuts i) (quote : (i : ℕ) → t quotes i ≡ s quotes i) where
+  each : (q i : ℕ) → q < 4 → t (lots + q) i ≡ s (lots + q) i
+  each zero i l = lot i
+  each (suc zero) i l = price i
+  each (suc (suc zero)) i l = haircut i
+  each (suc (suc (suc zero))) i l = quote i
+  each (suc (suc (suc (suc q)))) i l = absurd (omega arith)
+
+  pub columns-same : columnsOf t ≡ columnsOf s
+  columns-same = filled-same (λ k. t (lots + k / 64) (k % 64)) (λ k. s (lots + k / 64) (k % 64)) 256 (λ k l. each (k / 64) (k % 64) (omega arith))
+
+module _ (s : State) (e : ℕ) where
+  -- what Free gives back may move
+  pub free-gives-back : (amount : ℕ) → Freeable s e → GivingBack s e (freeFor s e amount .nominals)
+  free-gives-back amount f =
+      let r = free-returnable s e amount in
+      record {
+        below = f .below;
+        giver = f .giver;
+        enough = giveBack-lowerable r;
+        room = record { room = λ i l. omega (arith, f .together i l, r .enough i l) };
+      }
+
+  -- a used exposure of a good book
+  module _ (g : Good s) (l : e < 64) (u : s useds e ≡ 1) where
+    pub good-pickable : Pickable s e
+    good-pickable =
+        let x = used-exposure s e (g .facts .exposure e l) u in
+        record {
+          below = l;
+          giver = x .parties .giver-below;
+          basket = x .basket-below;
+          age = age-le s (g .facts) _ (x .basket-below);
+          day = today-le s (g .facts);
+          bounded = columns-bounded s (g .facts);
+          quoted = columns-quoted s (g .facts);
+          within = account-within s (g .facts) (s exposureGivers e) (x .parties .giver-below);
+        }
+
+    pub pick-pledges : (test : ℕ → Bool) (amount : ℕ) → Pledging s e (pickFor s e test amount .nominals)
+    pick-pledges test amount =
+        let giver = used-exposure s e (g .facts .exposure e l) u .parties .giver-below in
+        let enough = pledge-lowerable (pick-pledgeable s e test amount) in
+        record { below = l; giver = giver; enough = enough; room = pledge-raisable s e _ l u giver (g .facts .held) enough }
+
+    pub good-freeable : Freeable s e
+    good-freeable =
+        let giver = used-exposure s e (g .facts .exposure e l) u .parties .giver-below in
+        let whole : Lowerable s positions (64 * e) (positionOf s e) = record { enough = λ i m. rw (position-at s e i m) (le-refl (s positions (64 * e + i))) } in
+        record {
+          below = l;
+          giver = giver;
+          bounded = columns-bounded s (g .facts);
+          within = position-within s (g .facts) e l;
+          together = λ i m. rw (position-at s e i m) at (giveBack-raisable s e (positionOf s e) l u giver (g .facts .held) whole .room i m);
+        }

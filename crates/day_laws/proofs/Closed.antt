@@ -1,0 +1,86 @@
+-- Exposures closed: the whole position goes back to the giver and the amount becomes 0, one exposure after the other.
+-- Assumes nothing.
+use mathlib.Core.Path.{_≡_, refl, _∙_}
+use mathlib.Core.Bool.{cond}
+use mathlib.Core.List.{[], _∷_}
+use Prim.Native.Nat.{ℕ, _≤_, _<_}
+use native.Mathlib.Omega.{arith}
+use lib.Dec.{eqb}
+use borrow.Author.Tests.{eqb-true, eq-eqb, ne-eqb}
+use Rattle.book.specs.Layout.{useds, exposureClosings, exposures}
+use Rattle.book.specs.State.{State}
+use Rattle.rules.specs.DayChange.{onEach, isReached, isExposureClosed, exposureClosed, exposuresClosed}
+use Rattle.rules.specs.Sound.{holding}
+use Rattle.rules.specs.Stock.{positionOf, giveBack}
+use Rattle.facts.proofs.Keeps.{Good}
+use Rattle.facts.proofs.Stock.{position-at}
+use Rattle.facts.proofs.Truth.{split}
+use Rattle.bond_laws.proofs.Keeping.{good-giveBack, good-amount}
+use Rattle.bond_laws.proofs.Lots.{Returnable, giveBack-lowerable, position-lots}
+use Rattle.bond_laws.proofs.Moving.{giveBack-position, holding-giveBack}
+use Rattle.day_laws.proofs.Each.{each-keeps, place-ahead, place-passed}
+
+-- one exposure
+module _ (s : State) (g : Good s) (e : ℕ) (l : e < 64) (u : s useds e ≡ 1) where
+  -- a whole position is in whole lots
+  pub position-returnable : Returnable s e (positionOf s e)
+  position-returnable = record {
+    enough = λ i m. omega (arith, position-at s e i m);
+    whole = λ i m. rw (position-at s e i m) (position-lots s (g .facts) e i l m);
+  }
+
+  pub exposure-closed-good : Good (exposureClosed s e)
+  exposure-closed-good =
+      let n = positionOf s e in
+      good-amount (giveBack s e n) e 0 (good-giveBack s e n g l u position-returnable) l u (omega arith)
+      (λ z i m. giveBack-position s e n i m ∙ omega (arith, position-at s e i m))
+
+  pub exposure-closed-holding : (p i : ℕ) → p < 32 → i < 64 → holding (exposureClosed s e) p i ≡ holding s p i
+  unfolding holding
+  exposure-closed-holding p i h m = holding-giveBack s e (positionOf s e) l u (giveBack-lowerable position-returnable) p i h m
+
+-- what a turn counts on, and keeps: a good book, the same exposures in use with the same closing dates, each participant's bonds
+pub record Closing (s t : State) : Type 0 where
+  pub good : Good t
+  pub used : (e : ℕ) → t useds e ≡ s useds e
+  pub closing : (e : ℕ) → t exposureClosings e ≡ s exposureClosings e
+  pub held : (p i : ℕ) → p < 32 → i < 64 → holding t p i ≡ holding s p i
+
+module _ (s : State) (g : Good s) (day n : ℕ) (few : n ≤ 64) where
+  pub closing-turned : Closing s (onEach (isExposureClosed s day) exposureClosed n s)
+  closing-turned =
+      each-keeps (isExposureClosed s day) exposureClosed s (Closing s) n
+      (λ t e l c k.
+      let u : t useds e ≡ 1 = k .used e ∙ eqb-true (s useds e) 1 (split (eqb (s useds e) 1 ∷ isReached day (s exposureClosings e) ∷ []) c .0) in
+      let b : e < 64 = omega arith in
+      record {
+        good = exposure-closed-good t (k .good) e b u;
+        used = k .used;
+        closing = k .closing;
+        held = λ p i h m. exposure-closed-holding t (k .good) e b u p i h m ∙ k .held p i h m;
+      })
+      (record { good = g; used = λ e. refl; closing = λ e. refl; held = λ p i h m. refl })
+
+  -- the exposures are told by the same test on the way
+  pub closed-same : (e : ℕ) → isExposureClosed (onEach (isExposureClosed s day) exposureClosed n s) day e ≡ isExposureClosed s day e
+  closed-same e = rw (closing-turned .used e, closing-turned .closing e)
+
+-- the amounts
+module _ (s : State) (day e : ℕ) where
+  only-own-amount : (t : State) (d : ℕ) → (e ≡ d → ⊥) → exposureClosed t d exposures e ≡ t exposures e
+  only-own-amount t d n = rw (ne-eqb e d n)
+
+  pub amount-ahead : (n : ℕ) → n ≤ e → onEach (isExposureClosed s day) exposureClosed n s exposures e ≡ s exposures e
+  amount-ahead n l = place-ahead (isExposureClosed s day) exposureClosed s exposures e only-own-amount n l
+
+  pub amount-passed : (n : ℕ) → e < n → onEach (isExposureClosed s day) exposureClosed n s exposures e ≡ cond (isExposureClosed s day e) 0 (s exposures e)
+  amount-passed n l = rw (eq-eqb e e refl) at (place-passed (isExposureClosed s day) exposureClosed s exposures e only-own-amount n l)
+
+module _ (s : State) (day : ℕ) where
+  pub exposures-closed : Good s → Closing s (exposuresClosed s day)
+  unfolding exposuresClosed
+  exposures-closed g = closing-turned s g day 64 (omega arith)
+
+  pub exposures-closed-amount : (e : ℕ) → e < 64 → exposuresClosed s day exposures e ≡ cond (isExposureClosed s day e) 0 (s exposures e)
+  unfolding exposuresClosed
+  exposures-closed-amount e l = amount-passed s day e 64 l

@@ -1,0 +1,63 @@
+-- A step on each of the numbers below n that pass a test, one turn after the other: what stays with each turn, and what stands where
+-- each turn changes its own place alone.
+-- Assumes nothing.
+use mathlib.Core.Path.{_≡_, refl, sym, ap, _∙_}
+use mathlib.Core.Bool.{Bool, true, false, cond}
+use mathlib.Core.Logic.{⊎-elim}
+use Prim.Native.Nat.{ℕ, zero, suc, _≤_, _<_}
+use native.Mathlib.Decide.{ℕ-discrete}
+use native.Mathlib.Nat.{le-refl}
+use native.Mathlib.Omega.{arith}
+use Rattle.laws.proofs.Cases.{either}
+use Rattle.book.specs.State.{State}
+use Rattle.rules.specs.DayChange.{onEach}
+
+module _ (test : ℕ → Bool) (step : State → ℕ → State) (s : State) where
+  -- a turn as it is taken, and one that is left out
+  pub turn-taken : (n : ℕ) → test n ≡ true → onEach test step (suc n) s ≡ step (onEach test step n s) n
+  unfolding onEach
+  turn-taken n e = rw e
+
+  pub turn-left : (n : ℕ) → test n ≡ false → onEach test step (suc n) s ≡ onEach test step n s
+  unfolding onEach
+  turn-left n e = rw e
+
+  pub no-turn : onEach test step 0 s ≡ s
+  unfolding onEach
+  no-turn = refl
+
+  -- what holds at the start, and stays with each turn, holds after n
+  pub each-keeps : (P : State → Type 0) (n : ℕ) → ((t : State) (i : ℕ) → i < n → test i ≡ true → P t → P (step t i)) → P s → P (onEach test step n s)
+  each-keeps P zero h p = rw no-turn p
+  each-keeps P (suc n) h p =
+      let before = each-keeps P n (λ t i l. h t i (omega arith)) p in
+      ⊎-elim
+      (λ e. rw (turn-taken n e) (h (onEach test step n s) n (omega arith) e before))
+      (λ e. rw (turn-left n e) before)
+      (either (test n))
+
+  -- a place that only its own turn changes: before that turn and after it
+  module _ (f i : ℕ) (own : (t : State) (j : ℕ) → (i ≡ j → ⊥) → step t j f i ≡ t f i) where
+    other-turn : (n : ℕ) → (i ≡ n → ⊥) → onEach test step (suc n) s f i ≡ onEach test step n s f i
+    other-turn n d =
+        ⊎-elim
+        (λ (e : test n ≡ true). rw (turn-taken n e) (own (onEach test step n s) n d))
+        (λ (e : test n ≡ false). rw (turn-left n e))
+        (either (test n))
+
+    pub place-ahead : (n : ℕ) → n ≤ i → onEach test step n s f i ≡ s f i
+    place-ahead zero l = rw no-turn
+    place-ahead (suc n) l = other-turn n (omega arith) ∙ place-ahead n (omega arith)
+
+    own-turn : onEach test step (suc i) s f i ≡ cond (test i) (step (onEach test step i s) i f i) (s f i)
+    own-turn =
+        ⊎-elim
+        (λ (e : test i ≡ true). rw (turn-taken i e, e))
+        (λ (e : test i ≡ false). rw (turn-left i e, e) (place-ahead i (le-refl i)))
+        (either (test i))
+
+    pub place-passed : (n : ℕ) → i < n → onEach test step n s f i ≡ cond (test i) (step (onEach test step i s) i f i) (s f i)
+    place-passed zero l = absurd (omega arith)
+    place-passed (suc n) l =
+        let before = place-passed n in
+        elim (ℕ-discrete i n) [ yes e ↦ ap (λ (k : ℕ). onEach test step (suc k) s f i) (sym e) ∙ own-turn | no d ↦ other-turn n d ∙ before (omega arith) ]

@@ -1,0 +1,4 @@
+pub mod Demand3
+pub mod Paper
+pub mod Readings
+pub mod Steps

@@ -1,0 +1,21 @@
+-- `reads::basket_rules` meets its contract.
+-- Assumes nothing.
+use Rattle.reads.proofs.Ways.{basket-far, basket-unknown, basket-accepted}
+use borrow.Author.Needs.{needs}
+use Rattle.reads.proofs.basket_rules.Statement.{statement}
+use Rattle.reads.proofs.basket_rules.Tie as tie
+
+returns : tie.Need-returns
+returns c = search basket-far
+
+get-requires : tie.Need-get-requires
+get-requires c κs = search needs
+
+returns-2 : tie.Need-returns-2
+returns-2 c = search basket-unknown
+
+returns-3 : tie.Need-returns-3
+returns-3 c = search basket-accepted
+
+pub basket-rules-spec : {M : Type 1} → statement M
+basket-rules-spec = tie.close (tie.spec returns get-requires returns-2 returns-3)

@@ -1,0 +1,13 @@
+pub mod Accepting
+pub mod Cancelling
+pub mod Covering
+pub mod Entering
+pub mod Entries
+pub mod Finding
+pub mod Giving
+pub mod Keeping
+pub mod Order
+pub mod Rules
+pub mod Staying
+pub mod Touching
+pub mod Ways

@@ -1,0 +1,4 @@
+pub mod Amounts
+pub mod Pairs
+pub mod Passes
+pub mod Ways

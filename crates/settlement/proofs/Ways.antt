@@ -1,0 +1,106 @@
+-- What each way out of the test of a due row shows.
+-- Assumes nothing.
+use mathlib.Core.Path.{_≡_, refl, sym, ap, _∙_}
+use mathlib.Core.Bool.{Bool, true, false, not, _&&_, _||_, cond, and-false}
+use Prim.Native.Nat.{ℕ, _+_, _*_, _-_, _≤_, _<_}
+use native.Mathlib.Numerals.{add-one}
+use native.Mathlib.Omega.{arith}
+use lib.Dec.{eqb, leb, ltb}
+use borrow.Author.Tests.{eq-eqb, ne-eqb, le-leb, lt-leb, lt-ltb, le-ltb, not-true, not-false}
+use Rattle.laws.specs.Search.{leastBy}
+use Rattle.book.specs.Layout.{today, numbers, kinds, amounts, settlements, settleds, partners, ends}
+use Rattle.book.specs.State.{State}
+use Rattle.rules.specs.Requests.{isUsed, isPaired, isLive, partnerOf}
+use Rattle.rules.specs.Settlement.{orderOf, isDue}
+use Rattle.facts.proofs.Keeps.{Good}
+use Rattle.facts.proofs.Rows.{used-paired}
+use Rattle.settlement.specs.Due.{duePair, isAhead, earlierOf}
+
+module _ (s : State) (i : ℕ) {n : ℕ} (nq : n ≡ s numbers i) where
+  pub no-number : n ≡ 0 → false ≡ duePair s i
+  unfolding duePair
+  no-number z = rw (eq-eqb (s numbers i) 0 (sym nq ∙ z))
+
+  module _ (nz : n ≡ 0 → ⊥) {p : ℕ} (pq : p ≡ s partners i) where
+    pub no-partner : p ≡ 0 → false ≡ duePair s i
+    unfolding duePair
+    no-partner z = rw (eq-eqb (s partners i) 0 (sym pq ∙ z), and-false)
+
+    module _ (pz : p ≡ 0 → ⊥) {e : ℕ} (eq : e ≡ s ends i) where
+      pub has-ended : (e ≡ 0 → ⊥) → false ≡ duePair s i
+      unfolding duePair
+      has-ended h = rw (ne-eqb (s ends i) 0 (λ z. h (eq ∙ z)), and-false)
+
+      module _ (ez : e ≡ 0) {a x : ℕ} (aq : a ≡ s amounts i) (xq : x ≡ s settleds i) where
+        pub is-whole : a ≤ x → false ≡ duePair s i
+        unfolding duePair
+        is-whole h = rw (le-leb (s amounts i) (s settleds i) (rw (aq, xq) at h), and-false, and-false)
+
+        module _ (l : x < a) {m : ℕ} (mq : m ≡ s numbers (p - 1)) where
+          partner : m ≡ s numbers (partnerOf s i)
+          partner = mq ∙ ap (λ (k : ℕ). s numbers (k - 1)) pq
+
+          pub is-earlier : n ≤ m → false ≡ duePair s i
+          unfolding duePair
+          is-earlier h = rw (le-ltb (s numbers (partnerOf s i)) (s numbers i) (rw (nq, partner) at h), and-false, and-false)
+
+          pub by-day : m < n → {d t : ℕ} → d ≡ s settlements i → t ≡ s today 0 → leb d t ≡ duePair s i
+          unfolding duePair
+          by-day h dq tq = rw (
+            ne-eqb (s numbers i) 0 (λ z. nz (nq ∙ z)),
+            eq-eqb (s ends i) 0 (sym eq ∙ ez),
+            lt-leb (s amounts i) (s settleds i) (rw (aq, xq) at l),
+            ne-eqb (s partners i) 0 (λ z. pz (pq ∙ z)),
+            lt-ltb (s numbers (partnerOf s i)) (s numbers i) (rw (nq, partner) at h),
+            dq,
+            tq,
+          )
+
+-- a used row that names a partner names a row
+pub partner-row : {s : State} (i : ℕ) {n p : ℕ} → Good s → i < 256 → n ≡ s numbers i → (n ≡ 0 → ⊥) → p ≡ s partners i → (p ≡ 0 → ⊥) → p - 1 < 256
+partner-row {s} i g l nq nz pq pz =
+    let used : isUsed s i ≡ true = rw (ne-eqb (s numbers i) 0 (λ z. nz (nq ∙ z))) in
+    let paired : isPaired s i ≡ true = rw (ne-eqb (s partners i) 0 (λ z. pz (pq ∙ z))) in
+    omega (arith, used-paired s i (g .facts .row i l) used paired .pair .partner-below)
+
+-- the tests of a due row, those that few rows pass first
+regroup : (a b c d e f : Bool) → (a && (b && (c && (d && (e && f))))) ≡ ((a && (b && (d && e))) && (c && f))
+regroup false b c d e f = refl
+regroup true false c d e f = refl
+regroup true true false d e f = sym (and-false (d && e))
+regroup true true true false e f = refl
+regroup true true true true e f = refl
+
+module _ (s : State) (kind last best i : ℕ) where
+  due-by : isDue s kind last i ≡ (duePair s i && (eqb (s kinds i) kind && ltb last (orderOf s i)))
+  unfolding duePair
+  due-by = regroup (isLive s i) (isPaired s i) (eqb (s kinds i) kind) (ltb (s numbers (partnerOf s i)) (s numbers i)) (leb (s settlements i) (s today 0)) (ltb last (orderOf s i))
+
+  stays : (isDue s kind last i && isAhead s best (orderOf s i)) ≡ false → best ≡ earlierOf s kind last best i
+  unfolding earlierOf
+  stays h = rw h
+
+  module _ {k : ℕ} (kq : k ≡ s kinds i) where
+    pub other-kind : (k ≡ kind → ⊥) → best ≡ earlierOf s kind last best i
+    other-kind h = stays (rw (due-by, ne-eqb (s kinds i) kind (λ e. h (kq ∙ e)), and-false))
+
+    module _ (ke : k ≡ kind) {o : ℕ} (oq : o ≡ orderOf s i) where
+      pub not-after : o ≤ last → best ≡ earlierOf s kind last best i
+      not-after h = stays (rw (due-by, le-ltb last (orderOf s i) (rw oq at h), and-false, and-false))
+
+      module _ (ol : last < o) {b : Bool} (bq : b ≡ isAhead s best o) where
+        pub not-ahead : not b ≡ true → best ≡ earlierOf s kind last best i
+        not-ahead h = stays (rw (sym (rw oq at bq) ∙ not-true b h, and-false))
+
+        module _ (bt : not b ≡ false) {d : Bool} (dq : d ≡ duePair s i) where
+          pub not-due : d ≡ false → best ≡ earlierOf s kind last best i
+          not-due h = stays (rw (due-by, sym dq ∙ h))
+
+          pub now-due : d ≡ true → i ≡ earlierOf s kind last best i
+          unfolding earlierOf
+          now-due h = rw (due-by, sym dq ∙ h, eq-eqb (s kinds i) kind (sym kq ∙ ke), lt-ltb last (orderOf s i) (rw oq at ol), sym (rw oq at bq) ∙ not-false b bt)
+
+  -- one row more, in the code's i + 1
+  pub earliest-next : best ≡ leastBy (isDue s kind last) (orderOf s) 256 i → earlierOf s kind last best i ≡ leastBy (isDue s kind last) (orderOf s) 256 (i + 1)
+  unfolding leastBy earlierOf isAhead
+  earliest-next e = rw (add-one, ← e)

@@ -1,0 +1,34 @@
+-- `settlement::order_of` meets its contract: day and number are of four bytes each.
+-- Assumes nothing.
+use Rattle.book.specs.Layout.{numbers, settlements}
+use Rattle.book.proofs.Images.{state-fits}
+use native.Mathlib.Omega.{arith}
+use borrow.Author.Needs.{needs}
+use Rattle.settlement.proofs.order_of.Statement.{statement}
+use Rattle.settlement.proofs.order_of.Tie as tie
+
+get-requires : tie.Need-get-requires
+get-requires c κs = search needs
+
+mul-result : tie.Need-mul-result
+mul-result c =
+    let k = c .before in
+    let s = k .before in
+    let fits = state-fits (s .args .book .now) (s .pre .0) (λ j. k .shared-slice-known .given j .fits) in
+    omega (arith, c .get .ensures, fits .fits settlements (s .args .i) (s .pre .1))
+
+get-requires-2 : tie.Need-get-requires-2
+get-requires-2 c κs = search needs
+
+add-result : tie.Need-add-result
+add-result c =
+    let k = c .before .before in
+    let s = k .before in
+    let fits = state-fits (s .args .book .now) (s .pre .0) (λ j. k .shared-slice-known .given j .fits) in
+    omega (arith, c .before .get .ensures, c .get2 .ensures, fits .fits settlements (s .args .i) (s .pre .1), fits .fits numbers (s .args .i) (s .pre .1))
+
+returns : tie.Need-returns
+returns c = search needs
+
+pub order-of-spec : {M : Type 1} → statement M
+order-of-spec = tie.close (tie.spec get-requires mul-result get-requires-2 add-result returns)

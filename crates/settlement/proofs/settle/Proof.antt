@@ -1,0 +1,43 @@
+-- `settlement::settle` meets its contract: the columns are read once, since no security changes; returns, then FOPs.
+-- Assumes nothing.
+use mathlib.Core.Path.{sym, _∙_}
+use native.Mathlib.Omega.{arith}
+use Rattle.book.specs.State.{state}
+use Rattle.book.proofs.Images.{state-fits}
+use Rattle.facts.proofs.Facts.{sound-facts}
+use Rattle.facts.proofs.Keeps.{Good}
+use Rattle.settlement.proofs.Passes.{settled-state, settled-totals}
+use borrow.Author.Needs.{needs}
+use Rattle.settlement.proofs.settle.Statement.{statement}
+use Rattle.settlement.proofs.settle.Tie as tie
+
+columns-requires : tie.Need-columns-requires
+columns-requires c κs = search needs
+
+settle-pairs-requires : tie.Need-settle-pairs-requires
+settle-pairs-requires c κs =
+    let columns = c .before .before in
+    let known = columns .before .before in
+    let s = known .before in
+    let good : Good (state (s .args .book .now)) = record { facts = sound-facts (state (s .args .book .now)) (s .pre .1); fits = state-fits (s .args .book .now) (s .pre .0) (λ j. known .slice-known .given j .fits) } in
+    (search needs, good, columns .columns .ensures, record { fops = omega arith; returns = omega arith; cents = omega arith })
+
+settle-pairs-requires-2 : tie.Need-settle-pairs-requires-2
+settle-pairs-requires-2 c κs =
+    let returns = c .before .before .before .before in
+    let done = returns .settle-pairs .ensures in
+    (search needs, done .good, returns .before .before .before .columns .ensures ∙ sym (done .columns), record { fops = omega (arith, done .within .fops); returns = omega (arith, done .within .returns); cents = omega (arith, done .within .cents) })
+
+same-length : tie.Need-same-length
+same-length c = search needs
+
+returns : tie.Need-returns
+returns c =
+    let fops = c .before .before in
+    let returns = fops .before .before .before .before .before in
+    (settled-totals (returns .settle-pairs .ensures) (fops .settle-pairs2 .ensures), settled-state (returns .settle-pairs .ensures) (fops .settle-pairs2 .ensures))
+
+pub settle-spec : {M : Type 1} → statement M
+settle-spec =
+    tie.close
+    (tie.spec columns-requires settle-pairs-requires settle-pairs-requires-2 same-length returns)

@@ -1,0 +1,254 @@
+// Kind 9, settle: the live pairs that are due, returns before FOPs, by settlement date and then in the order in which they paired.
+ghost use mathlib.Core.Path.{_≡_};
+ghost use mathlib.Core.Bool.{true};
+ghost use Prim.Native.Nat.{_<_, _≤_};
+ghost use lib.ListN.{length};
+ghost use Rattle.book.specs.Layout.{settleds, amounts, exposures, bookLength};
+ghost use Rattle.book.specs.State.{state, put, columnsOf};
+ghost use Rattle.facts.proofs.Keeps.{Good};
+ghost use Rattle.rules.specs.Requests.{restOf, exposureOfFop};
+ghost use Rattle.rules.specs.Settlement.{orderOf, nextDue, bothSettled, returnAmount, fopAmount, settlement};
+ghost use Rattle.rules.specs.Sound.{sound};
+ghost use Rattle.totals.specs.Totals.{totalsOf};
+ghost use Rattle.settlement.specs.Due.{duePair, isAhead, earlierOf};
+ghost use Rattle.settlement.specs.Pairs.{PairOf, Settleable, amountFor, returnLeft, fopLeft};
+ghost use Rattle.settlement.specs.Passes.{begun, Alike, settleOf, Room, Within, Passed};
+use book::layout::AMOUNTS;
+use book::layout::CLOSINGS;
+use book::layout::ENDS;
+use book::layout::EXPOSURES;
+use book::layout::GIVERS;
+use book::layout::KINDS;
+use book::layout::NUMBERS;
+use book::layout::OBJECTS;
+use book::layout::PAIR_PARTIALS;
+use book::layout::PARTNERS;
+use book::layout::SETTLEDS;
+use book::layout::SETTLEMENTS;
+use book::layout::TAKERS;
+use book::layout::TODAY;
+use book::layout::TOLERANCE;
+use totals::Totals;
+
+// A row's place in the order: by settlement date, then by number.
+fn order_of(book: &[u8], i: usize) -> u64
+    requires { ⌜ (length (now book) ≡ bookLength) × (i < 256) ⌝ }
+    ensures { λ r. ⌜ r ≡ orderOf (state (now (book .entry))) i ⌝ }
+{
+    book::get(book, SETTLEMENTS, i) * 4294967296 + book::get(book, NUMBERS, i)
+}
+
+// Is the row the later request of a live pair that is due?
+fn is_due_pair(book: &[u8], i: usize) -> bool
+    requires { ⌜ (length (now book) ≡ bookLength) × Good (state (now book)) × (i < 256) ⌝ }
+    ensures { λ r. ⌜ r ≡ duePair (state (now (book .entry))) i ⌝ }
+{
+    let number = book::get(book, NUMBERS, i);
+    if number == 0 {
+        return false;
+    }
+    let partner = book::get(book, PARTNERS, i);
+    if partner == 0 {
+        return false;
+    }
+    if book::get(book, ENDS, i) != 0 {
+        return false;
+    }
+    if book::get(book, AMOUNTS, i) <= book::get(book, SETTLEDS, i) {
+        return false;
+    }
+    if number <= book::get(book, NUMBERS, (partner - 1) as usize) {
+        return false;
+    }
+    book::get(book, SETTLEMENTS, i) <= book::get(book, TODAY, 0)
+}
+
+// Does a row with this place in the order come before the earliest found so far? 256 stands for none.
+fn is_ahead(book: &[u8], best: usize, order: u64) -> bool
+    requires { ⌜ (length (now book) ≡ bookLength) × (best ≤ 256) ⌝ }
+    ensures { λ r. ⌜ r ≡ isAhead (state (now (book .entry))) best order ⌝ }
+{
+    if best == 256 {
+        return true;
+    }
+    order < order_of(book, best)
+}
+
+// The row i where it is due and comes before the earliest found so far, else that one. What few rows pass is asked first.
+fn earlier_of(book: &[u8], kind: u64, last: u64, best: usize, i: usize) -> usize
+    requires { ⌜ (length (now book) ≡ bookLength) × Good (state (now book)) × (best ≤ 256) × (i < 256) ⌝ }
+    ensures { λ r. ⌜ (r ≡ earlierOf (state (now (book .entry))) kind last best i) × (r ≤ 256) ⌝ }
+{
+    if book::get(book, KINDS, i) != kind {
+        return best;
+    }
+    let order = order_of(book, i);
+    if order <= last {
+        return best;
+    }
+    if !is_ahead(book, best, order) {
+        return best;
+    }
+    if is_due_pair(book, i) { i } else { best }
+}
+
+// The next pair of a kind to settle, after the last one tried, by the row of its later request; 256 where there is none.
+fn next_due(book: &[u8], kind: u64, last: u64) -> usize
+    requires { ⌜ (length (now book) ≡ bookLength) × Good (state (now book)) ⌝ }
+    ensures { λ r. ⌜ (r ≡ nextDue (state (now (book .entry))) kind last) × (r ≤ 256) ⌝ }
+{
+    let mut best: usize = 256;
+    let mut i: usize = 0;
+    while i < 256 {
+        best = earlier_of(book, kind, last, best, i);
+        i += 1;
+    }
+    best
+}
+
+// What is left to settle.
+fn rest_of(book: &[u8], i: usize) -> u64
+    requires { ⌜ (length (now book) ≡ bookLength) × (i < 256) × (state (now book) settleds i ≤ state (now book) amounts i) ⌝ }
+    ensures { λ r. ⌜ r ≡ restOf (state (now (book .entry))) i ⌝ }
+{
+    book::get(book, AMOUNTS, i) - book::get(book, SETTLEDS, i)
+}
+
+// Both rows of a pair have settled so much more, and the exposure has a new amount.
+fn note_settled(book: &mut [u8], i: usize, x: u64, e: usize, exposure: u64)
+    requires { ⌜ (length (now book) ≡ bookLength) × Settleable (state (now book)) i x × (e < 64) ⌝ }
+    ensures { λ _. ⌜ state (now (book .exit)) ≡ put (bothSettled (state (now (book .entry))) i x) exposures e exposure ⌝ }
+{
+    let j = (book::get(book, PARTNERS, i) - 1) as usize;
+    let own = book::get(book, SETTLEDS, i);
+    let other = book::get(book, SETTLEDS, j);
+    book::set(book, SETTLEDS, i, own + x);
+    book::set(book, SETTLEDS, j, other + x);
+    book::set(book, EXPOSURES, e, exposure);
+}
+
+// Settles a return: the lesser of its rest and the exposure, which is lowered and freed. The cents settled.
+fn settle_return(book: &mut [u8], columns: &[u64; 256], i: usize) -> u64
+    requires { ⌜ (length (now book) ≡ bookLength) × Good (state (now book)) × PairOf (state (now book)) 7 i × (now columns ≡ columnsOf (state (now book))) ⌝ }
+    ensures { λ r. ⌜ (r ≡ returnAmount (state (now (book .entry))) i) × (state (now (book .exit)) ≡ returnLeft (state (now (book .entry))) i) ⌝ }
+{
+    let e = book::get(book, OBJECTS, i) as usize;
+    let exposure = book::get(book, EXPOSURES, e);
+    let x = parcels::smaller(rest_of(book, i), exposure);
+    if x == 0 {
+        return 0;
+    }
+    note_settled(book, i, x, e, exposure - x);
+    bonds::free_down(book, columns, e, exposure - x);
+    x
+}
+
+// The exposure that a FOP pair belongs to.
+fn exposure_of_fop(book: &[u8], i: usize) -> usize
+    requires { ⌜ (length (now book) ≡ bookLength) × (i < 256) ⌝ }
+    ensures { λ r. ⌜ r ≡ exposureOfFop (state (now (book .entry))) i ⌝ }
+{
+    sound_requests::exposure_with(
+        book,
+        book::get(book, GIVERS, i),
+        book::get(book, TAKERS, i),
+        book::get(book, OBJECTS, i),
+        book::get(book, CLOSINGS, i),
+    )
+}
+
+// What a FOP settles of its rest, for the value found: all of it where less than the tolerance is missing, else what was found,
+// where both parties allowed partial settlement.
+fn amount_for(book: &[u8], i: usize, rest: u64, found: u64) -> u64
+    requires { ⌜ (length (now book) ≡ bookLength) × (i < 256) × (found ≤ rest) ⌝ }
+    ensures { λ r. ⌜ r ≡ amountFor (state (now (book .entry))) i rest found ⌝ }
+{
+    if rest - found < book::get(book, TOLERANCE, 0) {
+        return rest;
+    }
+    if book::get(book, PAIR_PARTIALS, i) == 1 {
+        found
+    } else {
+        0
+    }
+}
+
+// Settles a FOP: Picks its rest, and the exposure grows by what settles. The cents settled.
+fn settle_fop(book: &mut [u8], columns: &[u64; 256], i: usize) -> u64
+    requires { ⌜ (length (now book) ≡ bookLength) × Good (state (now book)) × PairOf (state (now book)) 6 i × (now columns ≡ columnsOf (state (now book))) ⌝ }
+    ensures { λ r. ⌜ (r ≡ fopAmount (state (now (book .entry))) i) × (state (now (book .exit)) ≡ fopLeft (state (now (book .entry))) i) ⌝ }
+{
+    let e = exposure_of_fop(book, i);
+    let exposure = book::get(book, EXPOSURES, e);
+    let rest = rest_of(book, i);
+    if 10000000000000 < exposure + rest {
+        return 0;
+    }
+    let outcome = bonds::pick_for(book, columns, e, rest);
+    let x = amount_for(book, i, rest, outcome.value);
+    if x == 0 {
+        return 0;
+    }
+    note_settled(book, i, x, e, exposure + x);
+    let nominals = outcome.nominals;
+    bonds::pledge(book, e, &nominals);
+    x
+}
+
+// Settles one pair, and counts it where something settled.
+fn settle_pair(book: &mut [u8], columns: &[u64; 256], kind: u64, i: usize, t: Totals) -> Totals
+    requires { ⌜ (length (now book) ≡ bookLength) × Good (state (now book)) × PairOf (state (now book)) kind i × (now columns ≡ columnsOf (state (now book))) × Room 512 t ⌝ }
+    ensures { λ r. ⌜ Alike (begun (state (now (book .exit))) r) (settleOf kind (begun (state (now (book .entry))) t) i) × Within t 1 r ⌝ }
+{
+    if kind == 7 {
+        let x = settle_return(book, columns, i);
+        if x == 0 {
+            return t;
+        }
+        return Totals {
+            a: t.a,
+            b: t.b + 1,
+            m: t.m + x,
+        };
+    }
+    let x = settle_fop(book, columns, i);
+    if x == 0 {
+        return t;
+    }
+    Totals {
+        a: t.a + 1,
+        b: t.b,
+        m: t.m + x,
+    }
+}
+
+// Settles the pairs of a kind in their order, each once.
+fn settle_pairs(book: &mut [u8], columns: &[u64; 256], kind: u64, start: Totals) -> Totals
+    requires { ⌜ (length (now book) ≡ bookLength) × Good (state (now book)) × (now columns ≡ columnsOf (state (now book))) × Room 256 start ⌝ }
+    ensures { λ r. ⌜ Passed kind (state (now (book .entry))) start (state (now (book .exit))) r ⌝ }
+{
+    let mut total = start;
+    let mut last: u64 = 0;
+    let mut n: usize = 0;
+    while n < 256 {
+        let i = next_due(book, kind, last);
+        if i == 256 {
+            return total;
+        }
+        last = order_of(book, i);
+        total = settle_pair(book, columns, kind, i, total);
+        n += 1;
+    }
+    total
+}
+
+// 9: settles what is due, returns before FOPs. A: FOPs changed, B: returns changed, M: cents settled by both.
+pub fn settle(book: &mut [u8]) -> Totals
+    requires { ⌜ (length (now book) ≡ bookLength) × (sound (state (now book)) ≡ true) ⌝ }
+    ensures { λ r. ⌜ (r ≡ totalsOf (settlement (state (now (book .entry))))) × (state (now (book .exit)) ≡ settlement (state (now (book .entry))) .state) ⌝ }
+{
+    let columns = book::columns(book);
+    let none = Totals { a: 0, b: 0, m: 0 };
+    let returns = settle_pairs(book, &columns, 7, none);
+    settle_pairs(book, &columns, 6, returns)
+}

@@ -1,0 +1,3 @@
+pub mod Legal
+pub mod More
+pub mod SetUp
