@@ -48,6 +48,15 @@ kept-none s h = record { good = h; bonds = λ p i m l. refl }
 kept-then : {s t u : State} → Kept s t → Kept t u → Kept s u
 kept-then a b = record { good = b .good; bonds = λ p i m l. b .bonds p i m l ∙ a .bonds p i m l }
 
+-- what is not eligible is a part of the position, each security whole
+pub ineligible-returnable : (s : State) (e : ℕ) → Sound s → e < 64 → Returnable s e (ineligibleOf s e)
+ineligible-returnable s e f below =
+    let at = filled-at (λ i. cond (eligibleFor s e i) 0 (s positions (64 * e + i))) 64 64 in
+    record {
+      enough = λ i l. rw (at i (le-refl 64) l) (⊎-elim (λ q. rw q (omega arith)) (λ q. rw q (le-refl (s positions (64 * e + i)))) (either (eligibleFor s e i)));
+      whole = λ i l. rw (at i (le-refl 64) l) (⊎-elim (λ q. rw q (inl refl)) (λ q. rw q (position-lots s f e i below l)) (either (eligibleFor s e i)));
+    }
+
 module _ (s : State) (e : ℕ) (h : Good s) (below : e < 64) (u : s useds e ≡ 1) where
   kept-back : (n : List ℕ) → Returnable s e n → Kept s (giveBack s e n)
   kept-back n r = record { good = good-giveBack s e n h below u r; bonds = holding-giveBack s e n below u (giveBack-lowerable r) }
@@ -55,19 +64,10 @@ module _ (s : State) (e : ℕ) (h : Good s) (below : e < 64) (u : s useds e ≡ 
   kept-in : (n : List ℕ) → (s exposures e ≡ 0 → ⊥) → Pledgeable s e n → Kept s (pledge s e n)
   kept-in n a p = record { good = good-pledge s e n h below u a p; bonds = holding-pledge s e n below u (pledge-lowerable p) }
 
-  -- what is not eligible is a part of the position, each security whole
-  pub ineligible-returnable : Returnable s e (ineligibleOf s e)
-  ineligible-returnable =
-      let at = filled-at (λ i. cond (eligibleFor s e i) 0 (s positions (64 * e + i))) 64 64 in
-      record {
-        enough = λ i l. rw (at i (le-refl 64) l) (⊎-elim (λ q. rw q (omega arith)) (λ q. rw q (le-refl (s positions (64 * e + i)))) (either (eligibleFor s e i)));
-        whole = λ i l. rw (at i (le-refl 64) l) (⊎-elim (λ q. rw q (inl refl)) (λ q. rw q (position-lots s (h .facts) e i below l)) (either (eligibleFor s e i)));
-      }
-
   -- each step of the three passes
   pub kept-ineligible : Kept s (ineligibleBack s e)
   unfolding ineligibleBack
-  kept-ineligible = kept-back (ineligibleOf s e) ineligible-returnable
+  kept-ineligible = kept-back (ineligibleOf s e) (ineligible-returnable s e (h .facts) below)
 
   pub kept-excess : Kept s (excessBack s e)
   unfolding excessBack

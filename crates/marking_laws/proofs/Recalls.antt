@@ -25,7 +25,7 @@ use Rattle.marking_laws.specs.Recalled.{more, less, added, accountAfter,
 use Rattle.marking_laws.proofs.Moved.{Bonds, own-pledge, own-giveBack}
 
 -- lists filled by rules that agree
-filled-same : (f g : ℕ → ℕ) (n k : ℕ) → ((i : ℕ) → i < k → f i ≡ g i) → filled f n k ≡ filled g n k
+pub filled-same : (f g : ℕ → ℕ) (n k : ℕ) → ((i : ℕ) → i < k → f i ≡ g i) → filled f n k ≡ filled g n k
 unfolding filled
 filled-same f g n zero h = refl
 filled-same f g n (suc k) h = rw (filled-same f g n k (λ i l. h i (omega arith)), h k (omega arith))

@@ -1,0 +1,105 @@
+-- What each way through the steps of a mark shows.
+-- Assumes nothing.
+use mathlib.Core.Path.{_≡_, refl, sym, ap, _∙_}
+use mathlib.Core.Bool.{Bool, true, false, not, cond}
+use mathlib.Core.List.{List}
+use mathlib.Core.Logic.{⊎-elim}
+use Prim.Native.Nat.{ℕ, _+_, _*_, _-_, _≤_, _<_}
+use native.Mathlib.Omega.{arith}
+use lib.Dec.{eqb}
+use lib.ListN.{getD}
+use borrow.Author.Tests.{eq-eqb, ne-eqb, not-true}
+use Rattle.laws.specs.Search.{all}
+use Rattle.laws.proofs.Cases.{either}
+use Rattle.laws.proofs.Least.{Rest, loop-fails, loop-passes}
+use Rattle.baskets.specs.Basket.{eligible}
+use Rattle.baskets.specs.declared.Basket.{Basket}
+use Rattle.securities.specs.Position.{worth, nominalsOf, Within}
+use Rattle.securities.specs.Security.{AllInBounds, AllQuoted}
+use Rattle.book.specs.Layout.{today, useds, exposureGivers, exposureBaskets, exposures}
+use Rattle.book.specs.State.{State, state, columnsOf}
+use Rattle.rules.specs.Marking.{missingOf}
+use Rattle.rules.specs.Stock.{basketOf, positionOf, valueOf}
+use Rattle.facts.proofs.Facts.{Sound, sound-facts}
+use Rattle.facts.proofs.Rows.{Exposure, used-exposure}
+use Rattle.facts.proofs.Stock.{columns-bounded, columns-quoted, today-le, age-le, position-within}
+use Rattle.marking.specs.Marks.{Marking, Movable, ineligibleIn}
+
+-- a search for a nominal that is not 0
+abbrev pub isZero : List ℕ → ℕ → Bool
+isZero nominals i = eqb (getD nominals i 0) 0
+
+module _ (nominals : List ℕ) {i : ℕ} {whole : Bool} (r : Rest (isZero nominals) 64 i whole) (l : i < 64) where
+  pub found-some : (getD nominals i 0 ≡ 0 → ⊥) → false ≡ whole
+  found-some n = loop-fails r l refl (rw (ne-eqb (getD nominals i 0) 0 n))
+
+  pub found-none : getD nominals i 0 ≡ 0 → Rest (isZero nominals) 64 (i + 1) whole
+  found-none z = loop-passes r l refl (rw (eq-eqb (getD nominals i 0) 0 z))
+
+-- one security of a position
+module _ (position columns : List ℕ) (basket : Basket) (today i : ℕ) where
+  pub no-nominal : getD position i 0 ≡ 0 → 0 ≡ ineligibleIn position columns basket today i
+  no-nominal z = ⊎-elim (λ e. rw e) (λ e. rw e (sym z)) (either (eligible basket today columns i))
+
+  pub stays : {b : Bool} → b ≡ eligible basket today columns i → b ≡ true → 0 ≡ ineligibleIn position columns basket today i
+  stays e t = rw (sym e ∙ t)
+
+  pub goes : {b : Bool} → b ≡ eligible basket today columns i → b ≡ false → getD position i 0 ≡ ineligibleIn position columns basket today i
+  goes e t = rw (sym e ∙ t)
+
+-- what a sound book with its securities is worth to picking and valuation
+module _ {book columns : List ℕ} (m : Marking book columns) where
+  pub facts-of : Sound (state book)
+  facts-of = sound-facts (state book) (m .sound-book)
+
+  pub bounded : AllInBounds columns
+  bounded = rw (m .securities) (columns-bounded (state book) facts-of)
+
+  pub quoted : AllQuoted columns
+  quoted = rw (m .securities) (columns-quoted (state book) facts-of)
+
+  pub today-within : {t : ℕ} → t ≡ state book today 0 → t ≤ 146096
+  today-within e = rw e (today-le (state book) facts-of)
+
+  module _ {e : ℕ} (below : e < 64) where
+    pub row-within : {row : List ℕ} → row ≡ positionOf (state book) e → Within (nominalsOf row)
+    row-within q = rw q (position-within (state book) facts-of e below)
+
+    -- of a used exposure: its giver, its basket, its amount
+    module _ {u : ℕ} (q : u ≡ state book useds e) (o : u ≡ 1) where
+      exposure-of : Exposure (state book) e
+      exposure-of = used-exposure (state book) e (facts-of .exposure e below) (sym q ∙ o)
+
+      pub movable : Movable book e
+      movable = record { long = m .long; sound-book = m .sound-book; below = below; used = sym q ∙ o }
+
+      pub basket-below : state book exposureBaskets e < 16
+      basket-below = exposure-of .basket-below
+
+      pub giver-below : state book exposureGivers e < 32
+      giver-below = exposure-of .parties .giver-below
+
+      pub amount-le : state book exposures e ≤ 10000000000000
+      amount-le = exposure-of .amount
+
+      pub oldest-le : {b : Basket} → b ≡ basketOf (state book) e → b .oldest ≤ 255
+      oldest-le h = rw h (age-le (state book) facts-of (state book exposureBaskets e) basket-below)
+
+-- what the value of an exposure is short of its amount
+module _ (s : State) (e : ℕ) {columns row : List ℕ} {v x : ℕ} (c : columns ≡ columnsOf s) (p : row ≡ positionOf s e) (w : v ≡ worth columns (nominalsOf row)) (a : x ≡ s exposures e) where
+  pub value-is : v ≡ valueOf s e
+  value-is = rw (c, p) at w
+
+  pub is-short : v < x → x - v ≡ s exposures e - valueOf s e
+  is-short l = rw (a, value-is)
+
+  pub not-short : x ≤ v → 0 ≡ s exposures e - valueOf s e
+  not-short l = omega (arith, value-is)
+
+-- what is missing of an exposure
+module _ (s : State) (e : ℕ) {u : ℕ} (q : u ≡ s useds e) where
+  pub missing-used : {x : ℕ} → u ≡ 1 → x ≡ s exposures e - valueOf s e → x ≡ missingOf s e
+  missing-used o h = rw (eq-eqb (s useds e) 1 (sym q ∙ o)) h
+
+  pub missing-unused : (u ≡ 1 → ⊥) → 0 ≡ missingOf s e
+  missing-unused n = rw (ne-eqb (s useds e) 1 (rw q at n))
