@@ -1,16 +1,14 @@
 -- Where bonds may move: what a good book gives, and that the securities' columns depend on the securities alone.
 -- Assumes nothing.
-use mathlib.Core.Path.{_≡_, refl, sym, ap, _∙_}
+use mathlib.Core.Path.{_≡_, sym, _∙_}
 use mathlib.Core.Bool.{Bool}
-use mathlib.Core.List.{List}
-use Prim.Native.Nat.{ℕ, zero, suc, _+_, _*_, _/_, _%_, _≤_, _<_}
+use Prim.Native.Nat.{ℕ, zero, suc, _+_, _*_, _/_, _%_, _<_}
 use native.Mathlib.Nat.{le-refl}
 use native.Mathlib.Omega.{arith}
-use lib.ListN.{length, getD}
 use lib.Seq.{ext-getD}
 use Rattle.laws.specs.Filled.{filled}
 use Rattle.laws.proofs.Filled.{filled-length, filled-at}
-use Rattle.book.specs.Layout.{lots, prices, haircuts, quotes, useds, exposureGivers, accounts, positions}
+use Rattle.book.specs.Layout.{lots, prices, haircuts, quotes, useds, exposureGivers, positions}
 use Rattle.book.specs.State.{State, columnsOf, Lowerable}
 use Rattle.rules.specs.Stock.{positionOf, pickFor, freeFor}
 use Rattle.facts.proofs.Keeps.{Good}

@@ -1,8 +1,8 @@
 -- The moves of bonds, step by step as the code takes them: the giver is read first.
 -- Assumes nothing.
-use mathlib.Core.Path.{_≡_, refl, sym, ap, _∙_}
+use mathlib.Core.Path.{_≡_}
 use mathlib.Core.List.{List}
-use Prim.Native.Nat.{ℕ, _+_, _*_}
+use Prim.Native.Nat.{ℕ, _*_}
 use Rattle.book.specs.Layout.{exposureGivers, exposureBaskets, maps, ages, today, accounts, positions}
 use Rattle.book.specs.State.{State, rowAt, columnsOf, raised, lowered, Raisable, Lowerable}
 use Rattle.baskets.specs.Basket.{eligible}

@@ -2,7 +2,6 @@
 -- Assumes nothing.
 use mathlib.Core.List.{List}
 use Prim.Native.Nat.{ℕ, _+_, _*_, _≤_, _<_}
-use lib.ListN.{getD}
 use Rattle.book.specs.Layout.{today, ages, exposureGivers, exposureBaskets, accounts, positions}
 use Rattle.book.specs.State.{State, columnsOf, lowered, Raisable, Lowerable}
 use Rattle.rules.specs.Stock.{accountOf, positionOf}

@@ -1,13 +1,9 @@
 -- What settles of a pair, and the state that is left, as the code finds them.
 -- Assumes nothing.
-use mathlib.Core.Path.{_≡_, refl, sym, ap, _∙_}
-use mathlib.Core.Bool.{Bool, true, false, cond}
-use mathlib.Core.List.{List}
+use mathlib.Core.Path.{_≡_, sym, _∙_}
 use Prim.Native.Nat.{ℕ, _+_, _-_, _≤_, _<_, min}
-use native.Mathlib.Omega.{arith}
-use lib.Dec.{eqb, ltb}
 use borrow.Author.Tests.{eq-eqb, ne-eqb, lt-ltb, le-ltb}
-use Rattle.book.specs.Layout.{tolerance, objects, amounts, settleds, partners, pairPartials, exposures}
+use Rattle.book.specs.Layout.{tolerance, objects, settleds, partners, pairPartials, exposures}
 use Rattle.book.specs.State.{State, put}
 use Rattle.picking.specs.declared.Outcome.{Outcome}
 use Rattle.rules.specs.Requests.{restOf, exposureOfFop}
@@ -21,16 +17,13 @@ pub all-noted : (s : State) (i x e y : ℕ) {p own other : ℕ} {t u v : State} 
 all-noted s i x e y pq oq rq tq uq vq = rw (vq, uq, tq, oq, rq, pq)
 
 -- a return
-module _ (s : State) (i : ℕ) {e exposure rest x : ℕ} (eq : e ≡ s objects i) (wq : exposure ≡ s exposures e) (rq : rest ≡ restOf s i) (xq : x ≡ min rest exposure) where
-  pub return-amount : x ≡ returnAmount s i
-  return-amount = rw (xq, rq, wq, eq)
+module _ (s : State) (i : ℕ) {e exposure : ℕ} (eq : e ≡ s objects i) (wq : exposure ≡ s exposures e) {x : ℕ} where
+  pub return-amount : {rest : ℕ} → rest ≡ restOf s i → x ≡ min rest exposure → x ≡ returnAmount s i
+  return-amount rq xq = rw (xq, rq, wq, eq)
 
-  pub return-none : x ≡ 0 → s ≡ returnLeft s i
-  return-none z = rw (eq-eqb (returnAmount s i) 0 (sym return-amount ∙ z))
-
-  pub return-done : (x ≡ 0 → ⊥) → {t u : State} → t ≡ put (bothSettled s i x) exposures e (exposure - x) → u ≡ giveBack t e (freeFor t e (exposure - x) .nominals) → u ≡ returnLeft s i
+  pub return-done : x ≡ returnAmount s i → (x ≡ 0 → ⊥) → {t u : State} → t ≡ put (bothSettled s i x) exposures e (exposure - x) → u ≡ giveBack t e (freeFor t e (exposure - x) .nominals) → u ≡ returnLeft s i
   unfolding returnSettled
-  return-done n tq uq = rw (ne-eqb (returnAmount s i) 0 (λ z. n (return-amount ∙ z)), uq, tq, return-amount, wq, eq)
+  return-done xq n tq uq = rw (ne-eqb (returnAmount s i) 0 (λ z. n (xq ∙ z)), uq, tq, xq, wq, eq)
 
 -- the cases of a FOP's amount
 module _ (s : State) (i rest found : ℕ) {tol : ℕ} (tq : tol ≡ s tolerance 0) where
@@ -53,15 +46,19 @@ module _ (s : State) (i : ℕ) {e exposure rest : ℕ} (eq : e ≡ exposureOfFop
   unfolding fopAmount
   fop-waits h = rw (lt-ltb 10000000000000 (s exposures (exposureOfFop s i) + restOf s i) (rw over at h))
 
-  module _ (h : exposure + rest ≤ 10000000000000) {o : Outcome} (oq : o ≡ pickFor s e (eligibleFor s e) rest) {x : ℕ} (xq : x ≡ amountFor s i rest (o .value)) where
-    pub fop-amount : x ≡ fopAmount s i
+  module _ {o : Outcome} (oq : o ≡ pickFor s e (eligibleFor s e) rest) {x : ℕ} where
+    pub fop-amount : exposure + rest ≤ 10000000000000 → x ≡ amountFor s i rest (o .value) → x ≡ fopAmount s i
     unfolding fopAmount
-    fop-amount = rw (le-ltb 10000000000000 (s exposures (exposureOfFop s i) + restOf s i) (rw over at h), xq, oq, rq, eq)
+    fop-amount h xq = rw (le-ltb 10000000000000 (s exposures (exposureOfFop s i) + restOf s i) (rw over at h), xq, oq, rq, eq)
 
-    pub fop-done : (x ≡ 0 → ⊥) → {t u : State} → t ≡ put (bothSettled s i x) exposures e (exposure + x) → u ≡ pledge t e (o .nominals) → u ≡ fopLeft s i
+    pub fop-done : x ≡ fopAmount s i → (x ≡ 0 → ⊥) → {t u : State} → t ≡ put (bothSettled s i x) exposures e (exposure + x) → u ≡ pledge t e (o .nominals) → u ≡ fopLeft s i
     unfolding fopSettled
-    fop-done n tq uq = rw (ne-eqb (fopAmount s i) 0 (λ z. n (fop-amount ∙ z)), uq, tq, fop-amount, oq, rq, wq, eq)
+    fop-done xq n tq uq = rw (ne-eqb (fopAmount s i) 0 (λ z. n (xq ∙ z)), uq, tq, xq, oq, rq, wq, eq)
 
 -- where nothing settles, all stays
-pub fop-none : (s : State) (i : ℕ) → 0 ≡ fopAmount s i → s ≡ fopLeft s i
-fop-none s i z = rw (eq-eqb (fopAmount s i) 0 (sym z))
+module _ (s : State) (i : ℕ) {x : ℕ} (z : x ≡ 0) where
+  pub return-none : x ≡ returnAmount s i → s ≡ returnLeft s i
+  return-none q = rw (eq-eqb (returnAmount s i) 0 (sym q ∙ z))
+
+  pub fop-none : x ≡ fopAmount s i → s ≡ fopLeft s i
+  fop-none q = rw (eq-eqb (fopAmount s i) 0 (sym q ∙ z))

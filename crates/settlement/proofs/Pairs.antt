@@ -1,16 +1,15 @@
 -- What a pair of a good book gives: its rows, its exposure, and room for what settles.
 -- Assumes nothing.
-use mathlib.Core.Path.{_≡_, refl, sym, ap, _∙_}
-use mathlib.Core.Bool.{Bool, true, false}
+use mathlib.Core.Path.{_≡_, refl}
+use mathlib.Core.Bool.{true}
 use mathlib.Core.List.{List}
-use mathlib.Core.Logic.{⊎-elim}
 use Prim.Native.Nat.{ℕ, _+_, _-_, _≤_, _<_}
 use native.Mathlib.Omega.{arith}
 use lib.Dec.{eqb}
 use borrow.Author.Tests.{eqb-false, eq-eqb, not-true}
-use Rattle.book.specs.Layout.{kinds, objects, amounts, settleds, partners, useds, exposures}
+use Rattle.book.specs.Layout.{kinds, amounts, settleds, partners, useds, exposures}
 use Rattle.book.specs.State.{State, put, columnsOf}
-use Rattle.rules.specs.Requests.{isUsed, isFop, isReturn, isPaired, partnerOf, restOf, exposureOfFop}
+use Rattle.rules.specs.Requests.{isPaired, restOf, exposureOfFop}
 use Rattle.rules.specs.Settlement.{bothSettled}
 use Rattle.facts.proofs.Keeps.{Good}
 use Rattle.facts.proofs.Rows.{Fields, Kind, fop, return, Return, Paired, used-fields, used-paired, used-exposure}

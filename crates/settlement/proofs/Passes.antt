@@ -1,13 +1,12 @@
 -- The pairs of a kind one after the other: one pair more, and the end.
 -- Assumes nothing.
 use mathlib.Core.Path.{_≡_, refl, sym, ap, _∙_}
-use mathlib.Core.Bool.{Bool, true, false, cond}
 use mathlib.Core.Logic.{⊎-elim}
-use Prim.Native.Nat.{ℕ, zero, suc, _+_, _*_, _-_, _≤_, _<_}
+use Prim.Native.Nat.{ℕ, zero, suc, _+_, _-_, _≤_, _<_}
 use native.Mathlib.Decide.{ℕ-discrete}
 use native.Mathlib.Omega.{arith}
 use lib.Dec.{eqb}
-use borrow.Author.Tests.{eq-eqb, ne-eqb, eqb-true, eqb-false}
+use borrow.Author.Tests.{eq-eqb, ne-eqb, eqb-false}
 use Rattle.book.specs.Layout.{kinds}
 use Rattle.book.specs.State.{State, columnsOf}
 use Rattle.rules.specs.Settlement.{Settling, returnAmount, fopAmount, returnSettled, fopSettled, settleReturn, settleFop, settleAll, settlement, allSettled, nextDue, orderOf}
@@ -16,7 +15,7 @@ use Rattle.facts.proofs.Keeps.{Good}
 use Rattle.totals.specs.declared.Totals.{Totals}
 use Rattle.totals.specs.Totals.{totalsOf}
 use Rattle.bonds.proofs.Ready.{columns-same}
-use Rattle.settlement_laws.proofs.Finding.{Due, due-row}
+use Rattle.settlement_laws.proofs.Finding.{due-row}
 use Rattle.settlement_laws.proofs.Settling.{return-good, fop-good}
 use Rattle.settlement.specs.Pairs.{PairOf, returnLeft, fopLeft}
 use Rattle.settlement.specs.Passes.{begun, Alike, settleOf, allOf, Room, Within, Passed}

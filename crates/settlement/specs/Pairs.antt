@@ -1,7 +1,7 @@
 -- One pair: what settling it counts on, and what it leaves.
 -- Assumes nothing.
 use mathlib.Core.Path.{_≡_}
-use mathlib.Core.Bool.{Bool, true, cond}
+use mathlib.Core.Bool.{true, cond}
 use Prim.Native.Nat.{ℕ, _+_, _-_, _≤_, _<_}
 use lib.Dec.{eqb, ltb}
 use Rattle.book.specs.Layout.{tolerance, kinds, settleds, partners, pairPartials}

@@ -1,8 +1,6 @@
 -- `bonds::free_down` meets its contract.
 -- Assumes nothing.
-use mathlib.Core.Path.{_≡_}
 use Rattle.book.specs.State.{state}
-use Rattle.rules.specs.Stock.{giveBack, freeFor}
 use Rattle.bonds.proofs.Ready.{free-gives-back}
 use Rattle.bonds.proofs.Steps.{freed-for}
 use borrow.Author.Needs.{needs}

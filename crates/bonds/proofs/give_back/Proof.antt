@@ -1,8 +1,8 @@
 -- `bonds::give_back` meets its contract.
 -- Assumes nothing.
-use Rattle.book.specs.State.{state}
 use mathlib.Core.Path.{refl}
 use native.Mathlib.Omega.{arith}
+use Rattle.book.specs.State.{state}
 use Rattle.bonds.proofs.Steps.{give-back-room, given-back}
 use borrow.Author.Needs.{needs}
 use Rattle.bonds.proofs.give_back.Statement.{statement}

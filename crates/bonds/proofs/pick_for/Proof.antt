@@ -1,6 +1,5 @@
 -- `bonds::pick_for` meets its contract.
 -- Assumes nothing.
-use native.Mathlib.Omega.{arith}
 use Rattle.bonds.proofs.Steps.{picked-for}
 use borrow.Author.Needs.{needs}
 use Rattle.bonds.proofs.pick_for.Statement.{statement}

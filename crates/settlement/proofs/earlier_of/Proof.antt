@@ -1,7 +1,7 @@
 -- `settlement::earlier_of` meets its contract.
 -- Assumes nothing.
-use Rattle.book.specs.State.{state}
 use native.Mathlib.Omega.{arith}
+use Rattle.book.specs.State.{state}
 use Rattle.settlement.proofs.Ways.{other-kind, not-after, not-ahead, not-due, now-due}
 use borrow.Author.Needs.{needs}
 use Rattle.settlement.proofs.earlier_of.Statement.{statement}

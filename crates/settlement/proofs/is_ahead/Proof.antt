@@ -1,7 +1,7 @@
 -- `settlement::is_ahead` meets its contract.
 -- Assumes nothing.
-use Rattle.settlement.specs.Due.{isAhead}
 use borrow.Author.Tests.{eq-eqb, ne-eqb}
+use Rattle.settlement.specs.Due.{isAhead}
 use borrow.Author.Needs.{needs}
 use Rattle.settlement.proofs.is_ahead.Statement.{statement}
 use Rattle.settlement.proofs.is_ahead.Tie as tie

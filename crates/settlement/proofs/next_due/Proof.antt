@@ -3,8 +3,8 @@
 use mathlib.Core.Path.{_≡_, refl, _∙_}
 use Prim.Native.Nat.{_-_, _≤_}
 use native.Mathlib.Omega.{arith}
-use Rattle.laws.specs.Search.{leastBy}
 use Rattle.book.specs.State.{state}
+use Rattle.laws.specs.Search.{leastBy}
 use Rattle.rules.specs.Settlement.{orderOf, isDue}
 use Rattle.settlement.proofs.Ways.{earliest-next}
 use borrow.Author.Needs.{needs}

@@ -1,8 +1,8 @@
 -- `settlement::order_of` meets its contract: day and number are of four bytes each.
 -- Assumes nothing.
-use Rattle.book.specs.Layout.{numbers, settlements}
-use Rattle.book.proofs.Images.{state-fits}
 use native.Mathlib.Omega.{arith}
+use Rattle.book.proofs.Images.{state-fits}
+use Rattle.book.specs.Layout.{numbers, settlements}
 use borrow.Author.Needs.{needs}
 use Rattle.settlement.proofs.order_of.Statement.{statement}
 use Rattle.settlement.proofs.order_of.Tie as tie

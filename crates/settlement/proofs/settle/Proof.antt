@@ -2,8 +2,8 @@
 -- Assumes nothing.
 use mathlib.Core.Path.{sym, _∙_}
 use native.Mathlib.Omega.{arith}
-use Rattle.book.specs.State.{state}
 use Rattle.book.proofs.Images.{state-fits}
+use Rattle.book.specs.State.{state}
 use Rattle.facts.proofs.Facts.{sound-facts}
 use Rattle.facts.proofs.Keeps.{Good}
 use Rattle.settlement.proofs.Passes.{settled-state, settled-totals}

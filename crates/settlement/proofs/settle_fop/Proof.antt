@@ -1,20 +1,19 @@
 -- `settlement::settle_fop` meets its contract: the bonds picked for the rest go into the exposure, which grows by what settles.
 -- Assumes nothing.
-use Rattle.settlement.proofs.Pairs.{pair-fields, fop-pair, rest-le, settleable, exposure-le, pledging-noted}
-use mathlib.Core.Path.{_≡_, sym, _∙_}
+use mathlib.Core.Path.{refl, _≡_, sym, _∙_}
 use Prim.Native.Nat.{_+_, _<_, _≤_}
 use native.Mathlib.Omega.{arith}
+use Rattle.bond_laws.proofs.Lots.{pick-value}
+use Rattle.bonds.proofs.Ready.{good-pickable, pick-pledges}
+use Rattle.bonds.specs.Moves.{Pledging}
 use Rattle.book.specs.Layout.{useds}
 use Rattle.book.specs.State.{state}
 use Rattle.rules.specs.Settlement.{fopAmount}
 use Rattle.rules.specs.Stock.{eligibleFor}
-use Rattle.bond_laws.proofs.Lots.{pick-value}
-use Rattle.bonds.proofs.Ready.{good-pickable, pick-pledges}
-use Rattle.bonds.specs.Moves.{Pickable, Pledging}
 use Rattle.settlement_laws.proofs.Finding.{exposure-used}
 use Rattle.settlement_laws.proofs.Settling.{fop-within}
 use Rattle.settlement.proofs.Amounts.{fop-waits, fop-amount, fop-done, fop-none}
-use Rattle.settlement.proofs.Pairs.{pair-fields, fop-pair, rest-le, settleable, pledging-noted}
+use Rattle.settlement.proofs.Pairs.{pair-fields, fop-pair, rest-le, settleable, exposure-le, pledging-noted}
 use borrow.Author.Needs.{needs}
 use Rattle.settlement.proofs.settle_fop.Statement.{statement}
 use Rattle.settlement.proofs.settle_fop.Tie as tie
@@ -42,7 +41,7 @@ settles c =
     let exposure = rest .before .before in
     let e = exposure .before .before in
     let s = e .before .before .before in
-    fop-amount (state (s .args .book .now)) (s .args .i) (e .exposure-of-fop .ensures) (exposure .get .ensures) (rest .rest-of .ensures) (pick .before .before .if1 .left) (pick .pick-for .ensures) (c .amount-for .ensures)
+    fop-amount (state (s .args .book .now)) (s .args .i) (e .exposure-of-fop .ensures) (exposure .get .ensures) (rest .rest-of .ensures) (pick .pick-for .ensures) (pick .before .before .if1 .left) (c .amount-for .ensures)
 
 settles-le : (c : tie.After-amount-for) → c .amount-for .result ≤ c .before .before .before .before .before .rest-of .result
 settles-le c =
@@ -78,7 +77,7 @@ returns c =
     let s = e .before .before .before in
     let st = state (s .args .book .now) in
     let none = fop-waits st (s .args .i) (e .exposure-of-fop .ensures) (exposure .get .ensures) (rest .rest-of .ensures) (c .if1 .taken) in
-    (none, fop-none st (s .args .i) none)
+    (none, fop-none st (s .args .i) refl none)
 
 pick-for-requires : tie.Need-pick-for-requires
 pick-for-requires c κs =
@@ -101,8 +100,8 @@ same-length-2 c = search needs
 returns-2 : tie.Need-returns-2
 returns-2 c =
     let s = c .before .before .before .before .before .before .before .before .before .before .before .before .before in
-    let none = sym (c .if2 .taken) ∙ settles (c .before) in
-    (none, fop-none (state (s .args .book .now)) (s .args .i) none)
+    let x = settles (c .before) in
+    (sym (c .if2 .taken) ∙ x, fop-none (state (s .args .book .now)) (s .args .i) (c .if2 .taken) x)
 
 add-note-settled : tie.Need-add-note-settled
 add-note-settled c =
@@ -146,8 +145,8 @@ returns-3 c =
     let exposure = rest .before .before in
     let e = exposure .before .before in
     let s = e .before .before .before in
-    let st = state (s .args .book .now) in
-    (settles amount, fop-done st (s .args .i) (e .exposure-of-fop .ensures) (exposure .get .ensures) (rest .rest-of .ensures) (pick .before .before .if1 .left) (pick .pick-for .ensures) (amount .amount-for .ensures) (noted .before .before .if2 .left) (noted .note-settled .ensures) (pledged .pledge .ensures))
+    let x = settles amount in
+    (x, fop-done (state (s .args .book .now)) (s .args .i) (e .exposure-of-fop .ensures) (exposure .get .ensures) (rest .rest-of .ensures) (pick .pick-for .ensures) x (noted .before .before .if2 .left) (noted .note-settled .ensures) (pledged .pledge .ensures))
 
 pub settle-fop-spec : {M : Type 1} → statement M
 settle-fop-spec =

@@ -1,16 +1,13 @@
 -- `settlement::settle_pairs` meets its contract: `n` pairs are tried, and what is left of the definition leads to the same end.
 -- Assumes nothing.
-use mathlib.Core.Path.{sym, _∙_}
-use Rattle.settlement.proofs.Passes.{within-room}
-use Rattle.book.specs.State.{columnsOf}
+use mathlib.Core.Path.{sym, _∙_, _≡_}
 use Prim.Native.Nat.{_-_, _≤_}
-use mathlib.Core.Path.{_≡_}
 use native.Mathlib.Omega.{arith}
-use borrow.Author.Needs.{needs}
 use lib.ListN.{length}
 use Rattle.book.specs.Layout.{bookLength}
 use Rattle.book.specs.State.{state}
-use Rattle.settlement.proofs.Passes.{Underway, underway-starts, underway-next, underway-done, underway-ends, due-pair}
+use Rattle.settlement.proofs.Passes.{within-room, Underway, underway-starts, underway-next, underway-done, underway-ends, due-pair}
+use borrow.Author.Needs.{needs}
 use Rattle.settlement.proofs.settle_pairs.Statement.{statement}
 use Rattle.settlement.proofs.settle_pairs.Tie as tie
 

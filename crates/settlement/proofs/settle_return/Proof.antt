@@ -1,18 +1,26 @@
 -- `settlement::settle_return` meets its contract: the exposure that the return names is lowered, then freed.
 -- Assumes nothing.
-use Rattle.bonds.specs.Moves.{Freeable}
-use Prim.Native.Nat.{_-_}
 use mathlib.Core.Path.{_≡_, sym, _∙_}
+use Prim.Native.Nat.{_-_}
 use native.Mathlib.Omega.{arith}
-use Rattle.book.specs.Layout.{objects}
-use Rattle.book.specs.State.{state}
-use Rattle.rules.specs.Requests.{restOf}
 use Rattle.bonds.proofs.Ready.{good-freeable}
+use Rattle.bonds.specs.Moves.{Freeable}
+use Rattle.book.specs.State.{state}
+use Rattle.rules.specs.Settlement.{returnAmount}
 use Rattle.settlement.proofs.Amounts.{return-amount, return-none, return-done}
 use Rattle.settlement.proofs.Pairs.{pair-fields, return-pair, settleable, columns-noted, freeable-noted}
 use borrow.Author.Needs.{needs}
 use Rattle.settlement.proofs.settle_return.Statement.{statement}
 use Rattle.settlement.proofs.settle_return.Tie as tie
+
+-- what the code settles is the definition's amount
+settles : (c : tie.After-smaller) → c .smaller .result ≡ returnAmount (state (c .before .before .before .before .before .before .before .before .args .book .now)) (c .before .before .before .before .before .before .before .before .args .i)
+settles c =
+    let rest = c .before in
+    let exposure = rest .before .before in
+    let object = exposure .before .before in
+    let s = object .before .before .before in
+    return-amount (state (s .args .book .now)) (s .args .i) (object .get .ensures) (exposure .get2 .ensures) (rest .rest-of .ensures) (c .smaller .ensures)
 
 get-requires : tie.Need-get-requires
 get-requires c κs = search needs
@@ -35,12 +43,9 @@ same-length c = search needs
 
 returns : tie.Need-returns
 returns c =
-    let rest = c .before .before in
-    let exposure = rest .before .before in
-    let object = exposure .before .before in
-    let s = object .before .before .before in
-    let x = return-amount (state (s .args .book .now)) (s .args .i) (object .get .ensures) (exposure .get2 .ensures) (rest .rest-of .ensures) (c .before .smaller .ensures) in
-    (sym (c .if1 .taken) ∙ x, return-none (state (s .args .book .now)) (s .args .i) (object .get .ensures) (exposure .get2 .ensures) (rest .rest-of .ensures) (c .before .smaller .ensures) (c .if1 .taken))
+    let s = c .before .before .before .before .before .before .before .before .before in
+    let x = settles (c .before) in
+    (sym (c .if1 .taken) ∙ x, return-none (state (s .args .book .now)) (s .args .i) (c .if1 .taken) x)
 
 sub-note-settled : tie.Need-sub-note-settled
 sub-note-settled c = search needs
@@ -77,11 +82,11 @@ returns-2 c =
     let free = c .before .before in
     let noted = free .before .before .before .before in
     let least = noted .before .before .before in
-    let rest = least .before in
-    let exposure = rest .before .before in
+    let exposure = least .before .before .before in
     let object = exposure .before .before in
     let s = object .before .before .before in
-    (return-amount (state (s .args .book .now)) (s .args .i) (object .get .ensures) (exposure .get2 .ensures) (rest .rest-of .ensures) (least .smaller .ensures), return-done (state (s .args .book .now)) (s .args .i) (object .get .ensures) (exposure .get2 .ensures) (rest .rest-of .ensures) (least .smaller .ensures) (noted .before .before .if1 .left) (noted .note-settled .ensures) (free .free-down .ensures))
+    let x = settles least in
+    (x, return-done (state (s .args .book .now)) (s .args .i) (object .get .ensures) (exposure .get2 .ensures) x (noted .before .before .if1 .left) (noted .note-settled .ensures) (free .free-down .ensures))
 
 pub settle-return-spec : {M : Type 1} → statement M
 settle-return-spec =
