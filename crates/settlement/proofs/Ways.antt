@@ -16,6 +16,11 @@ use Rattle.facts.proofs.Keeps.{Good}
 use Rattle.facts.proofs.Rows.{used-paired}
 use Rattle.settlement.specs.Due.{duePair, isAhead, earlierOf}
 
+-- a row's settlement day and number within four bytes
+pub record Dated (s : State) (i : ℕ) : Type 0 where
+  pub day : s settlements i < 4294967296
+  pub number : s numbers i < 4294967296
+
 module _ (s : State) (i : ℕ) {n : ℕ} (nq : n ≡ s numbers i) where
   pub no-number : n ≡ 0 → false ≡ duePair s i
   unfolding duePair

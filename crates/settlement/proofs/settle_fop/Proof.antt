@@ -1,7 +1,7 @@
 -- `settlement::settle_fop` meets its contract: the bonds picked for the rest go into the exposure, which grows by what settles.
 -- Assumes nothing.
-use mathlib.Core.Path.{refl, _≡_, sym, _∙_}
-use Prim.Native.Nat.{_+_, _<_, _≤_}
+use mathlib.Core.Path.{_≡_, refl, sym, _∙_}
+use Prim.Native.Nat.{_<_, _≤_}
 use native.Mathlib.Omega.{arith}
 use Rattle.bond_laws.proofs.Lots.{pick-value}
 use Rattle.bonds.proofs.Ready.{good-pickable, pick-pledges}
@@ -123,14 +123,13 @@ pledge-requires c κs =
     let amount = noted .before .before .before in
     let pick = amount .before .before in
     let rest = pick .before .before .before in
-    let exposure = rest .before .before in
-    let e = exposure .before .before in
+    let e = rest .before .before .before .before in
     let s = e .before .before .before in
     let st = state (s .args .book .now) in
     let target = e .exposure-of-fop .result in
     let x = amount .amount-for .result in
     let picked : Pledging st target (pick .pick-for .result .nominals) = rw (pick .pick-for .ensures) (pick-pledges st target (s .pre .1) (target-below e) (target-used e) (eligibleFor st target) (rest .rest-of .result)) in
-    (search needs, rw (noted .note-settled .ensures) (pledging-noted st (s .args .i) x target (exposure .get .result + x) picked))
+    (search needs, rw (noted .note-settled .ensures) (pledging-noted st (s .args .i) x target _ picked))
 
 same-length-3 : tie.Need-same-length-3
 same-length-3 c = search needs
