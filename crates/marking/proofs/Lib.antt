@@ -1,5 +1,5 @@
 pub mod Counts
-pub mod Moves
+pub mod Moving
 pub mod Passing
 pub mod Steps
 pub mod Ways
