@@ -1,3 +1,4 @@
+pub mod Accepting
 pub mod Counts
 pub mod Moving
 pub mod Passing
