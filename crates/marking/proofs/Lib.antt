@@ -1,5 +1,6 @@
+pub mod Accepting
 pub mod Counts
-pub mod Moves
+pub mod Moving
 pub mod Passing
 pub mod Steps
 pub mod Ways

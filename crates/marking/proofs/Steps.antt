@@ -12,21 +12,21 @@ use Rattle.laws.specs.Filled.{filled}
 use Rattle.baskets.specs.Basket.{eligible}
 use Rattle.baskets.specs.declared.Basket.{Basket}
 use Rattle.picking.specs.Free.{freed}
-use Rattle.picking.specs.Pick.{picked}
 use Rattle.picking.specs.declared.Freed.{Freed}
 use Rattle.picking.specs.declared.Outcome.{Outcome}
-use Rattle.securities.specs.Position.{nominalsOf, Within}
 use Rattle.book.specs.Layout.{today, useds, exposureGivers, exposures, accounts, positions}
 use Rattle.book.specs.State.{State, state, rowAt, columnsOf, Lowerable}
 use Rattle.rules.specs.Marking.{moved, ineligibleOf, ineligibleBack, excessBack, shortfallIn}
 use Rattle.rules.specs.Stock.{basketOf, positionOf, valueOf, eligibleFor, freeFor, pickFor, pledge, giveBack}
-use Rattle.facts.proofs.Stock.{position-at, account-within}
-use Rattle.bond_laws.proofs.Lots.{pledge-lowerable, giveBack-lowerable, pick-pledgeable, free-returnable}
+use Rattle.facts.proofs.Stock.{position-at}
+use Rattle.bond_laws.proofs.Lots.{pick-pledgeable, free-returnable}
+use Rattle.bonds.specs.Moves.{Pledging, GivingBack}
 use Rattle.marking_laws.proofs.Marking.{ineligible-returnable}
 use Rattle.marking_laws.proofs.Moved.{moved-none}
 use Rattle.marking_laws.proofs.Recalls.{filled-same}
 use Rattle.marking.specs.Marks.{Marking, Stepped, bit, ineligibleIn}
-use Rattle.marking.proofs.Ways.{facts-of, giver-below}
+use Rattle.marking.proofs.Moving.{gives-back, pledges}
+use Rattle.marking.proofs.Ways.{facts-of}
 
 -- what a step that moved bonds, or none, leaves
 abbrev pub Moved : (State → ℕ → List ℕ → State) → List ℕ → List ℕ → ℕ → List ℕ → ℕ → Type 0
@@ -51,8 +51,8 @@ module _ {book columns : List ℕ} {e u : ℕ} (m : Marking book columns) (below
             ∙ filled-same (ineligibleIn (positionOf s e) (columnsOf s) (basketOf s e) (s today 0)) (λ i. cond (eligibleFor s e i) 0 (s positions (64 * e + i))) 64 64
             (λ i l. ap (cond (eligibleFor s e i) 0) (position-at s e i l))
 
-        pub ineligible-lowerable : Lowerable (state book) positions (64 * e) nominals
-        ineligible-lowerable = rw ineligible-is (giveBack-lowerable (ineligible-returnable (state book) e (facts-of m) below))
+        pub ineligible-gives : GivingBack (state book) e nominals
+        ineligible-gives = rw ineligible-is (gives-back (state book) e (ineligibleOf (state book) e) (facts-of m) below (sym q ∙ o) (ineligible-returnable (state book) e (facts-of m) below))
 
         pub ineligible-step : {after : List ℕ} {r : ℕ} → Moved giveBack book after e nominals r → Stepped ineligibleBack book after e r
         unfolding ineligibleBack
@@ -63,8 +63,8 @@ module _ {book columns : List ℕ} {e u : ℕ} (m : Marking book columns) (below
         excess-is : f ≡ freeFor (state book) e (state book exposures e)
         excess-is = rw (m .securities, p, a) at n
 
-        pub excess-lowerable : Lowerable (state book) positions (64 * e) (f .nominals)
-        excess-lowerable = rw excess-is (giveBack-lowerable (free-returnable (state book) e (state book exposures e)))
+        pub excess-gives : GivingBack (state book) e (f .nominals)
+        excess-gives = rw excess-is (gives-back (state book) e _ (facts-of m) below (sym q ∙ o) (free-returnable (state book) e (state book exposures e)))
 
         pub excess-step : {after : List ℕ} {r : ℕ} → Moved giveBack book after e (f .nominals) r → Stepped excessBack book after e r
         unfolding excessBack
@@ -76,20 +76,12 @@ module _ {book columns : List ℕ} {e u : ℕ} (m : Marking book columns) (below
       unfolding shortfallIn
       covered-step z = used-step shortfallIn (rw (le-ltb (valueOf (state book) e) (state book exposures e) (omega arith))) (rw (moved-none (state book) e))
 
-      module _ {giver : ℕ} {account : List ℕ} (g : giver ≡ state book exposureGivers e) (a : account ≡ rowAt (state book) accounts (64 * giver)) where
-        pub giver-within : Within (nominalsOf account)
-        giver-within = rw (a, g) (account-within (state book) (facts-of m) (state book exposureGivers e) (giver-below m below q o))
+      module _ {found : Outcome} (n : found ≡ pickFor (state book) e (eligibleFor (state book) e) missing) where
+        pub found-pledges : Pledging (state book) e (found .nominals)
+        found-pledges = rw n (pledges (state book) e _ (facts-of m) below (sym q ∙ o) (pick-pledgeable (state book) e (eligibleFor (state book) e) missing))
 
-        module _ {basket : Basket} {day : ℕ} {found : Outcome} (b : basket ≡ basketOf (state book) e) (d : day ≡ state book today 0)
-            (n : found ≡ picked columns account (eligible basket day columns) missing) where
-          found-is : found ≡ pickFor (state book) e (eligibleFor (state book) e) (state book exposures e - valueOf (state book) e)
-          found-is = rw (a, g, b, d, s, m .securities) at n
-
-          pub found-lowerable : Lowerable (state book) accounts (64 * state book exposureGivers e) (found .nominals)
-          found-lowerable = rw found-is (pledge-lowerable (pick-pledgeable (state book) e (eligibleFor (state book) e) (state book exposures e - valueOf (state book) e)))
-
-          pub missing-step : (missing ≡ 0 → ⊥) → {after : List ℕ} {r : ℕ} → Moved pledge book after e (found .nominals) r → Stepped shortfallIn book after e r
-          unfolding shortfallIn
-          missing-step z t =
-              let short : valueOf (state book) e < state book exposures e = omega arith in
-              used-step shortfallIn (rw (lt-ltb (valueOf (state book) e) (state book exposures e) short) (rw found-is at (t .0))) (t .1)
+        pub missing-step : (missing ≡ 0 → ⊥) → {after : List ℕ} {r : ℕ} → Moved pledge book after e (found .nominals) r → Stepped shortfallIn book after e r
+        unfolding shortfallIn
+        missing-step z t =
+            let short : valueOf (state book) e < state book exposures e = omega arith in
+            used-step shortfallIn (rw (lt-ltb (valueOf (state book) e) (state book exposures e) short) (rw (n, s) at (t .0))) (t .1)

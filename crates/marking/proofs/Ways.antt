@@ -23,7 +23,7 @@ use Rattle.rules.specs.Stock.{basketOf, positionOf, valueOf}
 use Rattle.facts.proofs.Facts.{Sound, sound-facts}
 use Rattle.facts.proofs.Rows.{Exposure, used-exposure}
 use Rattle.facts.proofs.Stock.{columns-bounded, columns-quoted, today-le, age-le, position-within}
-use Rattle.marking.specs.Marks.{Marking, Movable, ineligibleIn}
+use Rattle.marking.specs.Marks.{Marking, ineligibleIn}
 
 -- a search for a nominal that is not 0
 abbrev pub isZero : List ℕ → ℕ → Bool
@@ -65,19 +65,13 @@ module _ {book columns : List ℕ} (m : Marking book columns) where
     pub row-within : {row : List ℕ} → row ≡ positionOf (state book) e → Within (nominalsOf row)
     row-within q = rw q (position-within (state book) facts-of e below)
 
-    -- of a used exposure: its giver, its basket, its amount
+    -- of a used exposure: its basket, its amount
     module _ {u : ℕ} (q : u ≡ state book useds e) (o : u ≡ 1) where
       exposure-of : Exposure (state book) e
       exposure-of = used-exposure (state book) e (facts-of .exposure e below) (sym q ∙ o)
 
-      pub movable : Movable book e
-      movable = record { long = m .long; sound-book = m .sound-book; below = below; used = sym q ∙ o }
-
       pub basket-below : state book exposureBaskets e < 16
       basket-below = exposure-of .basket-below
-
-      pub giver-below : state book exposureGivers e < 32
-      giver-below = exposure-of .parties .giver-below
 
       pub amount-le : state book exposures e ≤ 10000000000000
       amount-le = exposure-of .amount
@@ -86,15 +80,9 @@ module _ {book columns : List ℕ} (m : Marking book columns) where
       oldest-le h = rw h (age-le (state book) facts-of (state book exposureBaskets e) basket-below)
 
 -- what the value of an exposure is short of its amount
-module _ (s : State) (e : ℕ) {columns row : List ℕ} {v x : ℕ} (c : columns ≡ columnsOf s) (p : row ≡ positionOf s e) (w : v ≡ worth columns (nominalsOf row)) (a : x ≡ s exposures e) where
-  pub value-is : v ≡ valueOf s e
-  value-is = rw (c, p) at w
-
-  pub is-short : v < x → x - v ≡ s exposures e - valueOf s e
-  is-short l = rw (a, value-is)
-
-  pub not-short : x ≤ v → 0 ≡ s exposures e - valueOf s e
-  not-short l = omega (arith, value-is)
+pub shortfall-is : (s : State) (e : ℕ) {columns row : List ℕ} {v x n : ℕ} → columns ≡ columnsOf s → row ≡ positionOf s e → v ≡ worth columns (nominalsOf row) → x ≡ s exposures e
+    → n ≡ x - v → n ≡ s exposures e - valueOf s e
+shortfall-is s e c p w a q = rw (a, w, c, p) at q
 
 -- what is missing of an exposure
 module _ (s : State) (e : ℕ) {u : ℕ} (q : u ≡ s useds e) where

@@ -22,13 +22,6 @@ pub record Marking (book columns : List ℕ) : Type 0 where
   pub sound-book : sound (state book) ≡ true
   pub securities : columns ≡ columnsOf (state book)
 
--- bonds of a used exposure of a sound book, to be moved
-pub record Movable (book : List ℕ) (e : ℕ) : Type 0 where
-  pub long : length book ≡ bookLength
-  pub sound-book : sound (state book) ≡ true
-  pub below : e < 64
-  pub used : state book useds e ≡ 1
-
 -- 1 where a test holds, else 0
 abbrev pub bit : Bool → ℕ
 bit b = cond b 1 0

@@ -1,221 +1,20 @@
 // Kinds 10 and 11: mark and recall.
-// A mark is three passes over the exposures, each a loop whose body is one function: give back what is not eligible, free what is not
-// needed, search what is missing.
 ghost use mathlib.Core.Path.{_≡_};
-ghost use mathlib.Core.Bool.{true, cond};
-ghost use Prim.Native.Nat.{_<_, _≤_, _-_};
-ghost use lib.Dec.{eqb};
+ghost use mathlib.Core.Bool.{true};
 ghost use lib.ListN.{length};
-ghost use Rattle.laws.specs.Filled.{filled};
-ghost use Rattle.laws.specs.Sum.{sum};
-ghost use Rattle.book.specs.Layout.{bookLength, exposureBaskets, exposures};
+ghost use Rattle.book.specs.Layout.{bookLength};
 ghost use Rattle.book.specs.State.{state};
-ghost use Rattle.rules.specs.Marking.{onExposures, moved, ineligibleBack, excessBack, shortfallIn, missingOf, marked};
+ghost use Rattle.records.specs.Writing.{areLegal};
+ghost use Rattle.rules.specs.Codes.{recallRules};
+ghost use Rattle.rules.specs.Marking.{marked, recall};
+ghost use Rattle.rules.specs.Outcome.{lowest};
 ghost use Rattle.rules.specs.Sound.{sound};
-ghost use Rattle.rules.specs.Stock.{basketOf, valueOf};
-ghost use Rattle.securities.specs.Security.{AllInBounds, AllQuoted};
 ghost use Rattle.totals.specs.Totals.{totalsOf};
-ghost use Rattle.marking.specs.Marks.{Marking, Movable, Stepped, Marked, marksOf, orMark, marksWith, marksIn, ineligibleIn};
-use baskets::Basket;
-use book::layout::ACCOUNTS;
-use book::layout::AGES;
-use book::layout::EXPOSURE_BASKETS;
-use book::layout::EXPOSURE_GIVERS;
-use book::layout::EXPOSURES;
-use book::layout::MAPS;
-use book::layout::POSITIONS;
-use book::layout::TODAY;
-use book::layout::USEDS;
 use totals::Totals;
 
-mod bonds;
-
-// The basket of an exposure.
-fn basket_of(book: &[u8], e: usize) -> Basket
-    requires { ⌜ (length (now book) ≡ bookLength) × (e < 64) × (state (now book) exposureBaskets e < 16) ⌝ }
-    ensures { λ r. ⌜ r ≡ basketOf (state (now (book .entry))) e ⌝ }
-{
-    let b = book::get(book, EXPOSURE_BASKETS, e) as usize;
-    Basket {
-        map: book::get(book, MAPS, b),
-        oldest: book::get(book, AGES, b),
-    }
-}
-
-// The whole nominal of a security that is not eligible for a basket, else nothing.
-fn ineligible_nominal(
-    position: &[u64; 64],
-    columns: &[u64; 256],
-    basket: Basket,
-    today: u64,
-    i: usize,
-) -> u64
-    requires { ⌜ (i < 64) × (basket .oldest ≤ 255) × (today ≤ 146096) × AllInBounds (now columns) × AllQuoted (now columns) ⌝ }
-    ensures { λ r. ⌜ r ≡ ineligibleIn (now (position .entry)) (now (columns .entry)) basket today i ⌝ }
-{
-    let nominal = position[i];
-    if nominal == 0 {
-        return 0;
-    }
-    if baskets::is_eligible(basket, today, columns, i) {
-        0
-    } else {
-        nominal
-    }
-}
-
-// The nominals of a position that are not eligible for its basket.
-fn ineligible(position: &[u64; 64], columns: &[u64; 256], basket: Basket, today: u64) -> [u64; 64]
-    requires { ⌜ (basket .oldest ≤ 255) × (today ≤ 146096) × AllInBounds (now columns) × AllQuoted (now columns) ⌝ }
-    ensures { λ r. ⌜ r ≡ filled (ineligibleIn (now (position .entry)) (now (columns .entry)) basket today) 64 64 ⌝ }
-{
-    let mut nominals = [0u64; 64];
-    let mut i: usize = 0;
-    while i < 64 {
-        nominals[i] = ineligible_nominal(position, columns, basket, today, i);
-        i += 1;
-    }
-    nominals
-}
-
-// First pass, one exposure: gives back what is not eligible; 1 where there was anything.
-fn give_ineligible(book: &mut [u8], columns: &[u64; 256], e: usize) -> u64
-    requires { ⌜ Marking (now book) (now columns) × (e < 64) ⌝ }
-    ensures { λ r. ⌜ Stepped ineligibleBack (now (book .entry)) (now (book .exit)) e r ⌝ }
-{
-    if book::get(book, USEDS, e) != 1 {
-        return 0;
-    }
-    let position = book::row_at(book, POSITIONS, 64 * e);
-    let basket = basket_of(book, e);
-    let nominals = ineligible(&position, columns, basket, book::get(book, TODAY, 0));
-    bonds::give_back(book, e, &nominals)
-}
-
-// First pass: a mark for each exposure that gave back.
-fn give_all_ineligible(book: &mut [u8], columns: &[u64; 256]) -> [u64; 64]
-    requires { ⌜ Marking (now book) (now columns) ⌝ }
-    ensures { λ r. ⌜ (state (now (book .exit)) ≡ onExposures ineligibleBack 64 (state (now (book .entry)))) × (r ≡ marksOf (moved (state (now (book .entry))) (state (now (book .exit))))) ⌝ }
-{
-    let mut marks = [0u64; 64];
-    let mut e: usize = 0;
-    while e < 64 {
-        marks[e] = give_ineligible(book, columns, e);
-        e += 1;
-    }
-    marks
-}
-
-// Second pass, one exposure: frees its position down to its amount; 1 where there was anything to free.
-fn free_excess(book: &mut [u8], columns: &[u64; 256], e: usize) -> u64
-    requires { ⌜ Marking (now book) (now columns) × (e < 64) ⌝ }
-    ensures { λ r. ⌜ Stepped excessBack (now (book .entry)) (now (book .exit)) e r ⌝ }
-{
-    if book::get(book, USEDS, e) != 1 {
-        return 0;
-    }
-    let position = book::row_at(book, POSITIONS, 64 * e);
-    let freed = picking::free(&position, columns, book::get(book, EXPOSURES, e));
-    let nominals = freed.nominals;
-    bonds::give_back(book, e, &nominals)
-}
-
-// The mark of an exposure after the second pass: an exposure counts once, whether it gave back in the first, the second or both.
-fn either_mark(first: u64, second: u64) -> u64
-    ensures { λ r. ⌜ r ≡ cond (eqb first 0) second first ⌝ }
-{
-    if first == 0 { second } else { first }
-}
-
-// Second pass: how many exposures gave back, in the first pass or in this one.
-fn free_all(book: &mut [u8], columns: &[u64; 256], marks: &[u64; 64]) -> u64
-    requires { ⌜ Marking (now book) (now columns) × Marked (now marks) ⌝ }
-    ensures { λ r. ⌜ (state (now (book .exit)) ≡ onExposures excessBack 64 (state (now (book .entry)))) × (r ≡ marksWith (now (marks .entry)) (moved (state (now (book .entry))) (state (now (book .exit))))) ⌝ }
-{
-    let mut count: u64 = 0;
-    let mut e: usize = 0;
-    while e < 64 {
-        count += either_mark(marks[e], free_excess(book, columns, e));
-        e += 1;
-    }
-    count
-}
-
-// What the value of an exposure's position is short of its amount.
-fn shortfall(book: &[u8], columns: &[u64; 256], e: usize) -> u64
-    requires { ⌜ Marking (now book) (now columns) × (e < 64) ⌝ }
-    ensures { λ r. ⌜ r ≡ state (now (book .entry)) exposures e - valueOf (state (now (book .entry))) e ⌝ }
-{
-    let position = book::row_at(book, POSITIONS, 64 * e);
-    let value = securities::worth_of(&position, columns);
-    let exposure = book::get(book, EXPOSURES, e);
-    if value < exposure {
-        exposure - value
-    } else {
-        0
-    }
-}
-
-// Third pass, one exposure: picks what is missing; 1 where anything was found.
-fn search_missing(book: &mut [u8], columns: &[u64; 256], e: usize) -> u64
-    requires { ⌜ Marking (now book) (now columns) × (e < 64) ⌝ }
-    ensures { λ r. ⌜ Stepped shortfallIn (now (book .entry)) (now (book .exit)) e r ⌝ }
-{
-    if book::get(book, USEDS, e) != 1 {
-        return 0;
-    }
-    let missing = shortfall(book, columns, e);
-    if missing == 0 {
-        return 0;
-    }
-    let giver = book::get(book, EXPOSURE_GIVERS, e) as usize;
-    let account = book::row_at(book, ACCOUNTS, 64 * giver);
-    let basket = basket_of(book, e);
-    let today = book::get(book, TODAY, 0);
-    let found = picking::pick_for(&account, columns, basket, today, missing);
-    let nominals = found.nominals;
-    bonds::pledge(book, e, &nominals)
-}
-
-// Third pass: how many exposures took in.
-fn search_all(book: &mut [u8], columns: &[u64; 256]) -> u64
-    requires { ⌜ Marking (now book) (now columns) ⌝ }
-    ensures { λ r. ⌜ (state (now (book .exit)) ≡ onExposures shortfallIn 64 (state (now (book .entry)))) × (r ≡ marksIn (moved (state (now (book .entry))) (state (now (book .exit))))) ⌝ }
-{
-    let mut count: u64 = 0;
-    let mut e: usize = 0;
-    while e < 64 {
-        count += search_missing(book, columns, e);
-        e += 1;
-    }
-    count
-}
-
-// What is missing of an exposure, nothing where it is not used.
-fn missing_of(book: &[u8], columns: &[u64; 256], e: usize) -> u64
-    requires { ⌜ Marking (now book) (now columns) × (e < 64) ⌝ }
-    ensures { λ r. ⌜ (r ≡ missingOf (state (now (book .entry))) e) × (r ≤ 10000000000000) ⌝ }
-{
-    if book::get(book, USEDS, e) == 1 {
-        shortfall(book, columns, e)
-    } else {
-        0
-    }
-}
-
-// What is missing of all exposures.
-fn missing_in_all(book: &[u8], columns: &[u64; 256]) -> u64
-    requires { ⌜ Marking (now book) (now columns) ⌝ }
-    ensures { λ r. ⌜ r ≡ sum (missingOf (state (now (book .entry)))) 64 ⌝ }
-{
-    let mut missing: u64 = 0;
-    let mut e: usize = 0;
-    while e < 64 {
-        missing += missing_of(book, columns, e);
-        e += 1;
-    }
-    missing
-}
+mod moves;
+mod passes;
+mod recalls;
 
 // 10: the mark.
 pub fn mark(book: &mut [u8]) -> Totals
@@ -223,9 +22,50 @@ pub fn mark(book: &mut [u8]) -> Totals
     ensures { λ r. ⌜ (r ≡ totalsOf (marked (state (now (book .entry))))) × (state (now (book .exit)) ≡ marked (state (now (book .entry))) .state) ⌝ }
 {
     let columns = book::columns(book);
-    let marks = give_all_ineligible(book, &columns);
-    let a = free_all(book, &columns, &marks);
-    let b = search_all(book, &columns);
-    let m = missing_in_all(book, &columns);
+    let marks = passes::give_all_ineligible(book, &columns);
+    let a = passes::free_all(book, &columns, &marks);
+    let b = passes::search_all(book, &columns);
+    let m = passes::missing_in_all(book, &columns);
     Totals { a, b, m }
+}
+
+// 11: the code of a recall, found on copies of one account and one position.
+pub fn recall_code(book: &[u8], fields: &[u64; 8]) -> u64
+    requires { ⌜ (length (now book) ≡ bookLength) × (areLegal 11 (now fields) ≡ true) × (sound (state (now book)) ≡ true) ⌝ }
+    ensures { λ r. ⌜ r ≡ lowest (recallRules (state (now (book .entry))) (now (fields .entry))) ⌝ }
+{
+    let names = recalls::names_code(book, fields);
+    if names != 0 {
+        return names;
+    }
+    let holds = recalls::holds_code(book, fields);
+    if holds != 0 {
+        return holds;
+    }
+    if recalls::is_accepted(book, fields) {
+        0
+    } else {
+        16
+    }
+}
+
+// 11: the recall of an accepted record: the nominal goes back, the substitutes come in.
+pub fn recall(book: &mut [u8], fields: &[u64; 8]) -> Totals
+    requires { ⌜ (length (now book) ≡ bookLength) × (areLegal 11 (now fields) ≡ true) × (sound (state (now book)) ≡ true) × (lowest (recallRules (state (now book)) (now fields)) ≡ 0) ⌝ }
+    ensures { λ r. ⌜ (r ≡ totalsOf (recall (state (now (book .entry))) (now (fields .entry)))) × (state (now (book .exit)) ≡ recall (state (now (book .entry))) (now (fields .entry)) .state) ⌝ }
+{
+    let columns = book::columns(book);
+    let found = recalls::substitutes(book, &columns, fields);
+    let e = fields[1] as usize;
+    let i = fields[2] as usize;
+    let mut one = [0u64; 64];
+    one[i] = fields[3];
+    bonds::give_back(book, e, &one);
+    let nominals = found.nominals;
+    bonds::pledge(book, e, &nominals);
+    Totals {
+        a: 0,
+        b: found.count,
+        m: found.value,
+    }
 }

@@ -3,3 +3,4 @@ pub mod Moved
 pub mod Passes
 pub mod Ranges
 pub mod Recalls
+pub mod Rules

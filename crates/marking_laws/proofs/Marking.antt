@@ -8,20 +8,19 @@ use Prim.Native.Nat.{ℕ, _+_, _*_, _-_, _%_, _≤_, _<_}
 use native.Mathlib.Nat.{le-refl}
 use native.Mathlib.Decide.{ℕ-discrete}
 use native.Mathlib.Omega.{arith}
-use lib.Dec.{T, eqb, leb, ltb, leb→le}
-use lib.ListN.{getD}
+use lib.Dec.{eqb, ltb}
+use lib.ListN.{take, drop}
 use borrow.Author.Tests.{eqb-true, eqb-false, ltb-true, ltb-false, not-false}
 use Rattle.laws.specs.Filled.{filled}
 use Rattle.laws.proofs.Cases.{either}
 use Rattle.laws.proofs.Filled.{filled-at}
-use Rattle.laws.proofs.Table.{each, both-left, both-right}
 use Rattle.book.specs.Layout.{lots, useds, exposureGivers, exposures, accounts, positions}
 use Rattle.book.specs.State.{State}
 use Rattle.records.specs.Writing.{areLegal}
 use Rattle.rules.specs.Codes.{recallRules}
 use Rattle.facts.proofs.Sums.{allNoted}
 use Rattle.rules.specs.Marking.{onExposures, ineligibleOf, ineligibleBack, excessBack, shortfallIn, givenBack, searched, marked, oneNominal, recalled, substitutes, substituted, recall}
-use Rattle.rules.specs.Outcome.{Step, Rule, rule, lowest, field}
+use Rattle.rules.specs.Outcome.{lowest, field}
 use Rattle.rules.specs.Sound.{holding}
 use Rattle.rules.specs.Stock.{eligibleFor, securitySetUp, valueOf, freeFor, pickFor, pledge, giveBack}
 use Rattle.facts.proofs.Facts.{Sound}
@@ -36,6 +35,7 @@ use Rattle.marking_laws.proofs.Moved.{Bonds, Own, bonds-then, own-none,
 use Rattle.marking_laws.proofs.Passes.{Local, pass-keeps, pass-bonds}
 use Rattle.marking_laws.proofs.Ranges.{RecallIn, recall-in}
 use Rattle.marking_laws.proofs.Recalls.{one-same, one-other}
+use Rattle.marking_laws.proofs.Rules.{none-applies, none-early, lowest-later}
 
 -- a good state with the bonds of another
 pub record Kept (s t : State) : Type 0 where
@@ -149,23 +149,6 @@ keeps-mark s h =
       amounts = λ p a e l u. let m = amounts-kept (searched-bonds s) e in rw (m .1) (a e l (sym (m .0) ∙ u));
     }
 
--- a code of 0: no rule of the list applies, where each has a code
-abbrev NoneApplies : List Rule → Type 0
-NoneApplies [] = _≡_ {A = Bool} true true
-NoneApplies (r ∷ rs) = (r .applies ≡ false) × NoneApplies rs
-
-abbrev hasCode : Rule → Bool
-hasCode r = leb 1 (r .code)
-
-none-applies : (rs : List Rule) → T (each hasCode rs) → lowest rs ≡ 0 → NoneApplies rs
-none-applies [] t h = refl
-none-applies (r ∷ rs) t h =
-    let later = none-applies rs (both-right (hasCode r) (each hasCode rs) t) in
-    ⊎-elim
-    (λ q. let z : r .code ≡ 0 = rw q at h in absurd (omega (arith, leb→le 1 (r .code) (both-left (hasCode r) (each hasCode rs) t))))
-    (λ q. (q, later (rw q at h)))
-    (either (r .applies))
-
 module _ (s : State) (r : List ℕ) where
   abbrev exposure : ℕ
   exposure = field r 1
@@ -173,18 +156,26 @@ module _ (s : State) (r : List ℕ) where
   abbrev one : List ℕ
   one = oneNominal (field r 2) (field r 3)
 
-  -- what the rules of an accepted recall leave
+  -- what all rules of a recall but the last leave: those of the names and the lots, and those of the exposure
+  pub named-recallable : lowest (take 3 (recallRules s r)) ≡ 0 → lowest (take 2 (drop 3 (recallRules s r))) ≡ 0 → Recallable s r
+  unfolding recallRules
+  named-recallable h g =
+      let names = none-applies (take 3 (recallRules s r)) tt h in
+      let holds = none-applies (take 2 (drop 3 (recallRules s r))) tt g in
+      let known : securitySetUp s (field r 2) ≡ true = not-false (securitySetUp s (field r 2)) (names .1 .1 .0) in
+      record {
+        used = eqb-true (s useds exposure) 1 (split (eqb (s useds exposure) 1 ∷ eqb (s exposureGivers exposure) (field r 0) ∷ []) (not-false _ (holds .0)) .0);
+        known = known;
+        whole = eqb-true (field r 3 % s lots (field r 2)) 0 (not-false (eqb (field r 3 % s lots (field r 2)) 0) (rw known at (names .0)));
+        holds = ltb-false (s positions (64 * exposure + field r 2)) (field r 3) (holds .1 .0);
+      }
+
   pub accepted-recallable : lowest (recallRules s r) ≡ 0 → Recallable s r
   unfolding recallRules
   accepted-recallable h =
-      let none = none-applies (recallRules s r) tt h in
-      let known : securitySetUp s (field r 2) ≡ true = not-false (securitySetUp s (field r 2)) (none .1 .1 .0) in
-      record {
-        used = eqb-true (s useds exposure) 1 (split (eqb (s useds exposure) 1 ∷ eqb (s exposureGivers exposure) (field r 0) ∷ []) (not-false _ (none .1 .1 .1 .0)) .0);
-        known = known;
-        whole = eqb-true (field r 3 % s lots (field r 2)) 0 (not-false (eqb (field r 3 % s lots (field r 2)) 0) (rw known at (none .0)));
-        holds = ltb-false (s positions (64 * exposure + field r 2)) (field r 3) (none .1 .1 .1 .1 .0);
-      }
+      let rules = recallRules s r in
+      let names = none-early 3 rules h in
+      named-recallable names (none-early 2 (drop 3 rules) (lowest-later 3 rules tt names ∙ h))
 
   module _ (h : Good s) (m : RecallIn r) (k : Recallable s r) where
     pub one-returnable : Returnable s exposure one

@@ -17,7 +17,8 @@ use Rattle.picking.specs.Pick.{picked, butNot}
 use Rattle.securities.specs.Position.{worth, nominalsOf}
 use Rattle.book.specs.Layout.{today, lots, exposureGivers, exposures, accounts, positions}
 use Rattle.book.specs.State.{State, rowAt, columnsOf, raised, lowered}
-use Rattle.book.proofs.Moves.{raised-at, lowered-at}
+use Rattle.bond_laws.proofs.Moving.{pledge-position, giveBack-account, giveBack-position}
+use Rattle.facts.proofs.Stock.{account-at, position-at}
 use Rattle.rules.specs.Marking.{oneNominal, recalled, substitutes, substituted}
 use Rattle.rules.specs.Outcome.{field}
 use Rattle.rules.specs.Stock.{accountOf, positionOf, basketOf, valueOf, pledge, giveBack}
@@ -67,14 +68,14 @@ module _ (s : State) (r : List ℕ) (below : field r 2 < 64) where
   pub account-after : accountOf (recalled s r) giver ≡ accountAfter s r
   account-after =
       row-one (λ i. s accounts (64 * giver + i)) (λ i. recalled s r accounts (64 * giver + i)) (field r 2) _ below
-      (raised-at s accounts (64 * giver) one (field r 2) below ∙ rw (one-same (field r 2) (field r 3) below, filled-at (λ i. s accounts (64 * giver + i)) 64 64 (field r 2) (le-refl 64) below))
-      (λ j l d. raised-at s accounts (64 * giver) one j l ∙ rw (one-other (field r 2) (field r 3) j l d) (add-zero (s accounts (64 * giver + j))))
+      (giveBack-account s exposure one (field r 2) below ∙ rw (one-same (field r 2) (field r 3) below, account-at s giver (field r 2) below))
+      (λ j l d. giveBack-account s exposure one j l ∙ rw (one-other (field r 2) (field r 3) j l d) (add-zero (s accounts (64 * giver + j))))
 
   pub position-left : positionOf (recalled s r) exposure ≡ positionLeft s r
   position-left =
       row-one (λ i. s positions (64 * exposure + i)) (λ i. recalled s r positions (64 * exposure + i)) (field r 2) _ below
-      (lowered-at s positions (64 * exposure) one (field r 2) below ∙ rw (one-same (field r 2) (field r 3) below, filled-at (λ i. s positions (64 * exposure + i)) 64 64 (field r 2) (le-refl 64) below))
-      (λ j l d. lowered-at s positions (64 * exposure) one j l ∙ omega (arith, one-other (field r 2) (field r 3) j l d))
+      (giveBack-position s exposure one (field r 2) below ∙ rw (one-same (field r 2) (field r 3) below, position-at s exposure (field r 2) below))
+      (λ j l d. giveBack-position s exposure one j l ∙ omega (arith, one-other (field r 2) (field r 3) j l d))
 
   -- what is missing then, and the one Pick that finds the substitutes
   abbrev pub missingThen : ℕ
@@ -89,14 +90,19 @@ module _ (s : State) (r : List ℕ) (below : field r 2 < 64) where
       (columns-kept (own-giveBack s exposure one .bonds))
       ∙ rw (account-after, position-left)
 
-  -- the new value: of the position left with the substitutes
-  pub value-after : valueOf (substituted s r) exposure ≡ worth (columnsOf s) (nominalsOf (added (positionLeft s r) (substitutes s r .nominals)))
+  -- the position after: what is left with the substitutes
+  pub position-after : positionOf (substituted s r) exposure ≡ added (positionLeft s r) (substitutes s r .nominals)
   unfolding substituted
-  value-after =
+  position-after =
       let t = recalled s r in
       let by = substitutes s r .nominals in
-      let same : columnsOf (pledge t exposure by) ≡ columnsOf s = columns-kept (own-pledge t exposure by .bonds) ∙ columns-kept (own-giveBack s exposure one .bonds) in
-      let row : positionOf (pledge t exposure by) exposure ≡ added (positionLeft s r) by =
       filled-same (λ i. pledge t exposure by positions (64 * exposure + i)) (λ i. getD (positionLeft s r) i 0 + getD by i 0) 64 64
-      (λ i l. raised-at t positions (64 * exposure) by i l ∙ ap (λ (x : ℕ). x + getD by i 0) (sym (filled-at (λ i. t positions (64 * exposure + i)) 64 64 i (le-refl 64) l) ∙ ap (λ (l : List ℕ). getD l i 0) position-left)) in
-      rw (same, row)
+      (λ i l. pledge-position t exposure by i l ∙ ap (λ (x : ℕ). x + getD by i 0) (sym (position-at t exposure i l) ∙ ap (λ (l : List ℕ). getD l i 0) position-left))
+
+  pub columns-after : columnsOf (substituted s r) ≡ columnsOf s
+  unfolding substituted
+  columns-after = columns-kept (own-pledge (recalled s r) exposure (substitutes s r .nominals) .bonds) ∙ columns-kept (own-giveBack s exposure one .bonds)
+
+  -- and its value
+  pub value-after : valueOf (substituted s r) exposure ≡ worth (columnsOf s) (nominalsOf (added (positionLeft s r) (substitutes s r .nominals)))
+  value-after = rw (columns-after, position-after)
