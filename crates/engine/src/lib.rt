@@ -1,0 +1,117 @@
+// The exported call: a book and a record, both lent as bytes, and a lent answer of four numbers (code, A, B, M).
+ghost use mathlib.Core.Path.{_≡_};
+ghost use Prim.Native.Nat.{_<_};
+ghost use Rattle.book.specs.State.{state};
+ghost use Rattle.rules.specs.Call.{stepOf, opens, callAnswer, callBook};
+ghost use Rattle.rules.specs.Codes.{codeOf};
+ghost use Rattle.totals.specs.Totals.{totalsOf};
+ghost use Rattle.engine.specs.Entry.{numbersOf, damage, Taken, Accepted};
+use totals::Totals;
+
+// The code of a record that was read.
+fn code_of(book: &[u8], kind: u64, fields: &[u64; 8]) -> u64
+    requires { ⌜ Taken (now book) kind (now fields) ⌝ }
+    ensures { λ r. ⌜ r ≡ codeOf (state (now (book .entry))) kind (now (fields .entry)) ⌝ }
+{
+    match kind {
+        0 => setup::opening_code(fields),
+        1 => setup::price_code(book, fields),
+        3 => setup::basket_code(book, fields),
+        4 => setup::deposit_code(book, fields),
+        5 => setup::withdrawal_code(book, fields),
+        6 => requests::fop_code(book, fields),
+        7 => requests::return_code(book, fields),
+        8 => requests::cancel_code(book, fields),
+        11 => marking::recall_code(book, fields),
+        12 => day_change::next_day_code(book),
+        _ => 0,
+    }
+}
+
+// The steps of kinds 0 to 5, which answer nothing.
+fn set_up(book: &mut [u8], kind: u64, fields: &[u64; 8])
+    requires { ⌜ Accepted (now book) kind (now fields) × (kind < 6) ⌝ }
+    ensures { λ _. ⌜ state (now (book .exit)) ≡ stepOf (state (now (book .entry))) kind (now (fields .entry)) .state ⌝ }
+{
+    match kind {
+        0 => setup::open(book, fields),
+        1 => setup::price(book, fields),
+        2 => setup::enrol(book, fields),
+        3 => setup::make_basket(book, fields),
+        4 => setup::deposit(book, fields),
+        _ => setup::withdraw(book, fields),
+    }
+}
+
+// The step of an accepted record.
+fn take_step(book: &mut [u8], kind: u64, fields: &[u64; 8]) -> Totals
+    requires { ⌜ Accepted (now book) kind (now fields) ⌝ }
+    ensures { λ r. ⌜ (r ≡ totalsOf (stepOf (state (now (book .entry))) kind (now (fields .entry)))) × (state (now (book .exit)) ≡ stepOf (state (now (book .entry))) kind (now (fields .entry)) .state) ⌝ }
+{
+    if kind < 6 {
+        set_up(book, kind, fields);
+        return Totals { a: 0, b: 0, m: 0 };
+    }
+    match kind {
+        6 => requests::enter_fop(book, fields),
+        7 => requests::enter_return(book, fields),
+        8 => requests::cancel(book, fields),
+        9 => settlement::settle(book),
+        10 => marking::mark(book),
+        11 => marking::recall(book, fields),
+        _ => day_change::next_day(book),
+    }
+}
+
+// Is the first byte that of an opening?
+fn is_opening(bytes: &[u8]) -> bool
+    ensures { λ r. ⌜ r ≡ opens (now (bytes .entry)) ⌝ }
+{
+    if bytes.len() == 0 {
+        return false;
+    }
+    bytes[0] == 0
+}
+
+// 1 for a book of another length, 2 for one that is not sound where the record is no opening, else 0.
+fn damage_code(book: &[u8], bytes: &[u8]) -> u64
+    ensures { λ r. ⌜ r ≡ damage (now (book .entry)) (now (bytes .entry)) ⌝ }
+{
+    if book.len() != 49152 {
+        return 1;
+    }
+    if is_opening(bytes) {
+        return 0;
+    }
+    if soundness::is_sound(book) {
+        return 0;
+    }
+    2
+}
+
+// Applies a record to a book. A refused call has its code in the answer and 0 in its other numbers, and leaves the book as it was.
+#[no_mangle]
+pub extern "C" fn engine_call(book: &mut [u8], bytes: &[u8], answer: &mut [u64; 4])
+    ensures { λ _. ⌜ now (book .exit) ≡ callBook (now (book .entry)) (now (bytes .entry)) ⌝ }
+    ensures { λ _. ⌜ now (answer .exit) ≡ numbersOf (callAnswer (now (book .entry)) (now (bytes .entry))) ⌝ }
+{
+    let damage = damage_code(book, bytes);
+    if damage != 0 {
+        *answer = [damage, 0, 0, 0];
+        return;
+    }
+    let reading = records::records_read(bytes);
+    if reading.code != 0 {
+        *answer = [reading.code, 0, 0, 0];
+        return;
+    }
+    let kind = reading.kind;
+    let fields = reading.fields;
+    let code = code_of(book, kind, &fields);
+    if code != 0 {
+        *answer = [code, 0, 0, 0];
+        return;
+    }
+    let totals = take_step(book, kind, &fields);
+    *answer = [0, totals.a, totals.b, totals.m];
+}
