@@ -6,10 +6,12 @@
 //! - `desk`: what the comparison asks of a program with a book; `image`: the book's bytes by docs/LAYOUT.md.
 
 pub mod answers;
+pub mod compare;
 pub mod desk;
 #[cfg(feature = "reads")]
 pub mod engine;
 pub mod image;
+pub mod lists;
 pub mod plain;
 pub mod proved;
 pub mod random;
