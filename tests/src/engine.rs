@@ -1,9 +1,11 @@
 //! The proved engine as a desk, linked from libengine.a with the feature `engine`, and the
 //! proved reads, linked from libreads.a with the feature `reads`.
 
-use crate::second::reads::{Question, Reply, REPLY};
+use crate::desk::{Desk, SecondDesk};
 #[cfg(feature = "engine")]
-use crate::{desk::Desk, image::BYTES, second::steps::Answer};
+use crate::image::BYTES;
+use crate::second::reads::{Question, Reply, REPLY};
+use crate::second::steps::Answer;
 
 /// The functions as the libraries export them.
 pub mod raw {
@@ -73,6 +75,46 @@ pub fn read(book: &[u8], question: Question) -> Reply {
     let mut reply = [0; REPLY];
     reply[..numbers].copy_from_slice(&filled[..numbers]);
     reply
+}
+
+/// The second program's calls, and the proved reads on the bytes of its book.
+pub struct ReadsDesk {
+    second: SecondDesk,
+    bytes: Vec<u8>,
+}
+
+impl ReadsDesk {
+    pub fn new() -> ReadsDesk {
+        let second = SecondDesk::new();
+        ReadsDesk { bytes: second.bytes(), second }
+    }
+}
+
+impl Default for ReadsDesk {
+    fn default() -> ReadsDesk {
+        ReadsDesk::new()
+    }
+}
+
+impl Desk for ReadsDesk {
+    fn call(&mut self, record: &[u8]) -> Answer {
+        let answer = self.second.call(record);
+        self.bytes = self.second.bytes();
+        answer
+    }
+
+    fn read(&mut self, question: Question) -> Reply {
+        read(&self.bytes, question)
+    }
+
+    fn bytes(&self) -> Vec<u8> {
+        self.bytes.clone()
+    }
+
+    fn lend(&mut self, bytes: &[u8]) {
+        self.second.lend(bytes);
+        self.bytes = bytes.to_vec();
+    }
 }
 
 /// The engine with its book, which starts as zero bytes.

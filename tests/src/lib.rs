@@ -6,6 +6,7 @@
 //! - `desk`: what the comparison asks of a program with a book; `image`: the book's bytes by docs/LAYOUT.md.
 
 pub mod answers;
+pub mod busy;
 pub mod compare;
 pub mod desk;
 #[cfg(feature = "reads")]

@@ -761,7 +761,8 @@ impl Maker {
         self.put(12, &[]);
         self.put(10, &[]);
         let day = self.today();
-        let kept = self.random.between(12, 64);
+        // Twelve are worth the next two FOPs and little more.
+        let kept = self.random.one_of(&[12, 13, 20, 64]);
         for security in 0..64 {
             self.put(1, &[security, 1_000_000, 2_500_000, 0, day]);
             if security >= kept {

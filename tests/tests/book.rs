@@ -2,18 +2,10 @@
 //! `engine`, else the second program itself. And a test of this test: wrong programs are found.
 
 use yordzepa_tests::compare::{run, shrink, text, Checks, Coverage, KINDS};
-use yordzepa_tests::desk::{Desk, SecondDesk};
+use yordzepa_tests::desk::{under_test, Desk, SecondDesk};
 use yordzepa_tests::lists::{list, List, Theme};
 use yordzepa_tests::second::book::Turn;
 use yordzepa_tests::second::notes::Branch;
-
-/// The desk that is compared with the second program.
-fn other() -> Box<dyn Desk> {
-    #[cfg(feature = "engine")]
-    return Box::new(yordzepa_tests::engine::EngineDesk::new());
-    #[cfg(not(feature = "engine"))]
-    return Box::new(SecondDesk::new());
-}
 
 /// Lists of each theme, and calls in each.
 const SEEDS: u64 = 45;
@@ -23,7 +15,7 @@ fn lists() -> impl Iterator<Item = List> {
     (1..=SEEDS).flat_map(|seed| Theme::ALL.iter().map(move |&theme| list(theme, seed, LENGTH)))
 }
 
-const CHECKS: Checks = Checks { bytes: true, reads: 6, sweep: 250 };
+const CHECKS: Checks = Checks { bytes: true, reads: 4, sweep: 500 };
 
 /// Pairs of kind and code that the lists have to reach; the last line is any other kind.
 const PAIRS: [&[usize]; KINDS] = [
@@ -47,10 +39,10 @@ const PAIRS: [&[usize]; KINDS] = [
 fn lists_of_calls_are_answered_alike() {
     let mut coverage = Coverage::new();
     for list in lists() {
-        if run(&list, &mut *other(), CHECKS, &mut coverage).is_some() {
-            let short = shrink(&list, CHECKS, &other);
-            let difference = run(&short, &mut *other(), CHECKS, &mut Coverage::new());
-            panic!("{}{:?}", text(&short, &other), difference);
+        if run(&list, &mut *under_test(), CHECKS, &mut coverage).is_some() {
+            let short = shrink(&list, CHECKS, &under_test);
+            let difference = run(&short, &mut *under_test(), CHECKS, &mut Coverage::new());
+            panic!("{}{:?}", text(&short, &under_test), difference);
         }
     }
     println!("{}", coverage.text());
@@ -74,7 +66,7 @@ fn lists_of_calls_are_answered_alike() {
 }
 
 /// Answers and reads alone find a wrong program: no look at its bytes.
-const WITHOUT_BYTES: Checks = Checks { bytes: false, reads: 6, sweep: 250 };
+const WITHOUT_BYTES: Checks = Checks { bytes: false, reads: 4, sweep: 500 };
 
 #[test]
 fn every_wrong_turn_is_found() {
@@ -95,4 +87,22 @@ fn every_wrong_turn_is_found() {
         }
     }
     assert!(missed.is_empty(), "not found: {missed:?}");
+}
+
+/// The shortest list found for a wrong program is short, and still shows it.
+#[test]
+fn a_difference_is_shown_by_a_short_list() {
+    for (turn, most) in [
+        (Turn::LatestFirst, 9),
+        (Turn::FirstPairOnly, 12),
+        (Turn::ToleranceOffByOne, 10),
+        (Turn::FreesNamedExposure, 16),
+    ] {
+        let make = || -> Box<dyn Desk> { Box::new(SecondDesk::wrong(turn)) };
+        let differs = |list: &List| run(list, &mut *make(), WITHOUT_BYTES, &mut Coverage::new());
+        let long = lists().find(|list| differs(list).is_some()).expect("a list that shows it");
+        let short = shrink(&long, WITHOUT_BYTES, &make);
+        assert!(differs(&short).is_some(), "{turn:?} is lost");
+        assert!(short.calls.len() <= most, "{turn:?}\n{}", text(&short, &make));
+    }
 }

@@ -15,7 +15,7 @@ pub struct Picked {
 impl Program {
     /// "Eligible for a basket: in its map, set up, price age not above the greatest age, one lot
     /// worth at least 1 cent." The securities as a map.
-    pub(super) fn eligible(&self, basket: u8) -> u64 {
+    pub fn eligible(&self, basket: u8) -> u64 {
         let basket = match &self.book.baskets[usize::from(basket)] {
             None => return 0,
             Some(basket) => basket,
@@ -70,7 +70,7 @@ impl Program {
 
     /// "Free down to exposure E: by falling number, give back the largest count of lots that leaves
     /// the position worth E or more; none if it is below E." True if something went back.
-    pub(super) fn free<N: Notes>(&mut self, exposure: usize, notes: &mut N) -> bool {
+    pub fn free<N: Notes>(&mut self, exposure: usize, notes: &mut N) -> bool {
         let amount = match &self.book.exposures[exposure] {
             None => return false,
             Some(used) => used.amount,

@@ -1,7 +1,7 @@
 //! Document 01, The desk's business: "A book is sound when ..".
 
 use super::book::{
-    Book, Deal, Key, Nominals, Program, Request, BASKETS, EXPOSURES, GREATEST_AMOUNT,
+    Book, Deal, Exposure, Key, Nominals, Program, Request, BASKETS, EXPOSURES, GREATEST_AMOUNT,
     GREATEST_EXPOSURE, GREATEST_HAIRCUT, GREATEST_HOLDING, GREATEST_LOT, GREATEST_PRICE,
     GREATEST_TOLERANCE, LAST_NUMBER, PARTICIPANTS, ROWS, SECURITIES,
 };
@@ -21,8 +21,7 @@ pub fn is_sound(book: &Book, days: &Days) -> bool {
         && (1..=LAST_NUMBER + 1).contains(&book.next_number)
         && securities_sound(book, days)
         && baskets_sound(book)
-        && exposures_sound(book, days)
-        && requests_sound(book, days)
+        && exposures_sound(book, days).map_or(false, |keys| requests_sound(book, days, &keys))
         && holdings_sound(book)
 }
 
@@ -66,96 +65,99 @@ fn closing_sound(days: &Days, closing: u32) -> bool {
     closing == 0 || days.is_open(closing)
 }
 
-/// A key as one number: the parts are in range when it is made.
+/// A set of numbers by open addressing, so that a test of them all is one pass. A place that is free
+/// holds 0; there are twice as many places as numbers, or more.
+struct Set<const PLACES: usize> {
+    places: [u32; PLACES],
+}
+
+impl<const PLACES: usize> Set<PLACES> {
+    fn new() -> Set<PLACES> {
+        Set { places: [0; PLACES] }
+    }
+
+    /// The place where a number other than 0 stands, or would stand.
+    #[inline]
+    fn place(&self, number: u32) -> usize {
+        let mut place = (number.wrapping_mul(0x9e37_79b1) >> 16) as usize % PLACES;
+        while self.places[place] != 0 && self.places[place] != number {
+            place = (place + 1) % PLACES;
+        }
+        place
+    }
+
+    /// False where the number is there already.
+    #[inline]
+    fn insert(&mut self, number: u32) -> bool {
+        let place = self.place(number);
+        let new = self.places[place] == 0;
+        self.places[place] = number;
+        new
+    }
+
+    #[inline]
+    fn has(&self, number: u32) -> bool {
+        self.places[self.place(number)] != 0
+    }
+}
+
+/// The keys of the used exposures.
+type Keys = Set<{ 2 * EXPOSURES }>;
+
+/// A key as one number other than 0, its parts being in range: a day has 18 bits.
 #[inline]
-fn packed(key: Key) -> u64 {
-    u64::from(key.closing) << 24
-        | u64::from(key.giver) << 16
-        | u64::from(key.taker) << 8
-        | u64::from(key.basket)
+fn packed(key: Key) -> u32 {
+    let parties = u32::from(key.giver) << 5 | u32::from(key.taker);
+    (key.closing << 14 | parties << 4 | u32::from(key.basket)) + 1
 }
 
 /// Fields and names of the exposures; "exposures are at most 10^13; used exposures have distinct
-/// keys"; "an exposure of amount 0 has no position", nor has a row that is not used.
-fn exposures_sound(book: &Book, days: &Days) -> bool {
-    let mut keys = [0; EXPOSURES];
-    let mut count = 0;
+/// keys"; "an exposure of amount 0 has no position", nor has a row that is not used. The keys.
+fn exposures_sound(book: &Book, days: &Days) -> Option<Keys> {
+    let mut keys = Keys::new();
     for (exposure, position) in book.exposures.iter().zip(&book.positions) {
-        let has_amount = match exposure {
-            None => false,
-            Some(exposure) => {
-                let key = exposure.key;
-                if !parties_sound(book, key.giver, key.taker)
-                    || !basket_sound(book, key.basket)
-                    || !closing_sound(days, key.closing)
-                    || exposure.amount > GREATEST_EXPOSURE
-                {
-                    return false;
-                }
-                let key = packed(key);
-                if keys[..count].contains(&key) {
-                    return false;
-                }
-                keys[count] = key;
-                count += 1;
-                exposure.amount != 0
+        let mut has_amount = false;
+        if let Some(Exposure { key, amount }) = exposure {
+            if !parties_sound(book, key.giver, key.taker)
+                || !basket_sound(book, key.basket)
+                || !closing_sound(days, key.closing)
+                || *amount > GREATEST_EXPOSURE
+                || !keys.insert(packed(*key))
+            {
+                return None;
             }
-        };
+            has_amount = *amount != 0;
+        }
         if !has_amount && !is_empty(position) {
-            return false;
+            return None;
         }
     }
-    true
+    Some(keys)
 }
 
 #[inline]
-fn is_empty(nominals: &Nominals) -> bool {
+fn is_empty(nominals: &[u32]) -> bool {
     nominals.iter().fold(0, |all, &nominal| all | nominal) == 0
 }
 
-/// Fields, names and pairs of the requests.
-fn requests_sound(book: &Book, days: &Days) -> bool {
-    if !numbers_distinct(book) {
-        return false;
-    }
-    let mut last = (0, 0);
+/// Fields, names and pairs of the requests; "request numbers are distinct".
+fn requests_sound(book: &Book, days: &Days, keys: &Keys) -> bool {
+    let mut numbers = Set::<{ 2 * ROWS }>::new();
     for (row, request) in book.used_rows() {
-        if !request_sound(book, days, request) || !pair_sound(book, row, request) {
+        // A number of 0 is out of its range.
+        if request.number == 0
+            || !numbers.insert(request.number)
+            || !request_sound(book, days, request)
+            || !pair_sound(book, row, request)
+        {
             return false;
         }
-        // "FOP pairs belong to a used exposure with their key". Equal keys stand side by side, so
-        // the last one found is looked at first.
+        // "FOP pairs belong to a used exposure with their key"
         if let (Some(_), Some(key)) = (request.partner, request.key()) {
-            let key = packed(key) + 1;
-            if key != last.0 && key != last.1 {
-                let found = book.used_exposures().any(|(_, e)| packed(e.key) + 1 == key);
-                if !found {
-                    return false;
-                }
-                last = (key, last.0);
-            }
-        }
-    }
-    true
-}
-
-/// "request numbers are distinct": a table with open addressing takes them in one pass.
-fn numbers_distinct(book: &Book) -> bool {
-    const PLACES: usize = 2 * ROWS;
-    let mut table = [0u32; PLACES];
-    for (_, request) in book.used_rows() {
-        // 0 marks a free place; a number of 0 is out of its range.
-        if request.number == 0 {
-            return false;
-        }
-        let mut place = (request.number.wrapping_mul(0x9e37_79b1) >> 23) as usize % PLACES;
-        while table[place] != 0 {
-            if table[place] == request.number {
+            if !keys.has(packed(key)) {
                 return false;
             }
-            place = (place + 1) % PLACES;
         }
-        table[place] = request.number;
     }
     true
 }
@@ -214,34 +216,35 @@ fn pair_sound(book: &Book, row: usize, request: &Request) -> bool {
 /// one security is at most 500,000,000".
 fn holdings_sound(book: &Book) -> bool {
     let mut holdings = book.accounts;
-    let too_much = |nominals: &Nominals| {
-        nominals.iter().fold(false, |any, &nominal| any | (nominal > GREATEST_HOLDING))
-    };
-    if holdings.iter().any(too_much) {
-        return false;
+    let mut too_much = false;
+    for &nominal in holdings.iter().flatten() {
+        too_much |= nominal > GREATEST_HOLDING;
     }
     for (e, exposure) in book.used_exposures() {
-        let position = &book.positions[e];
         if exposure.amount == 0 {
             continue;
         }
-        if too_much(position) {
-            return false;
-        }
+        let position = &book.positions[e];
         let holding = &mut holdings[usize::from(exposure.key.giver)];
         for s in 0..SECURITIES {
-            // Both are at most 500,000,000.
-            holding[s] += position[s];
+            // As long as neither is above 500,000,000, the sum is below 2^32.
+            let sum = holding[s].wrapping_add(position[s]);
+            too_much |= position[s] > GREATEST_HOLDING || sum > GREATEST_HOLDING;
+            holding[s] = sum;
         }
-        if too_much(holding) || !in_whole_lots(book, position) {
+        if too_much || !in_whole_lots(book, position) {
             return false;
         }
     }
-    true
+    !too_much
 }
 
+/// Most positions are mostly empty: eight securities at a time are passed over.
 fn in_whole_lots(book: &Book, position: &Nominals) -> bool {
-    position.iter().zip(&book.securities).all(|(&nominal, security)| {
-        nominal == 0 || (security.set_up() && nominal % security.lot == 0)
+    position.chunks(8).zip(book.securities.chunks(8)).all(|(nominals, securities)| {
+        is_empty(nominals)
+            || nominals.iter().zip(securities).all(|(&nominal, security)| {
+                nominal == 0 || (security.set_up() && nominal % security.lot == 0)
+            })
     })
 }
