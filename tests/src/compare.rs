@@ -121,7 +121,8 @@ pub fn run(
     checks: Checks,
     coverage: &mut Coverage,
 ) -> Option<Difference> {
-    let mut run = Run { second: SecondDesk::new(), other, ledger: None, checks, turn: 0 };
+    let mut run =
+        Run { second: SecondDesk::new(), other, ledger: None, checks, turn: 0, last: Vec::new() };
     if let Some(book) = &list.book {
         run.second.lend(book);
         run.other.lend(book);
@@ -144,6 +145,8 @@ struct Run<'a> {
     checks: Checks,
     /// Which of the book's contents are read next.
     turn: usize,
+    /// The other desk's bytes after the last call, where bytes are compared.
+    last: Vec<u8>,
 }
 
 /// An error where the two are not the same.
@@ -156,6 +159,7 @@ fn same<T: PartialEq + std::fmt::Debug>(what: &str, second: T, other: T) -> Resu
 
 impl Run<'_> {
     fn step(&mut self, call: &Call, sweep: bool, coverage: &mut Coverage) -> Result<(), String> {
+        let mut changes = false;
         match call {
             Call::Read(question) => {
                 let reply = self.second.read(*question);
@@ -165,13 +169,14 @@ impl Run<'_> {
             Call::Record(bytes) => {
                 let answer = self.second.call_noted(bytes, coverage);
                 coverage.count_call(bytes, answer[0]);
+                changes = answer[0] == 0;
                 same("answer", answer, self.other.call(bytes))?;
                 self.step_of_ledger(bytes, answer[0])?;
                 self.read_touched(bytes, answer, coverage)?;
             }
         }
         if self.checks.bytes {
-            self.compare_bytes()?;
+            self.compare_bytes(changes)?;
         }
         if sweep {
             self.sweep(coverage)?;
@@ -238,18 +243,24 @@ impl Run<'_> {
         Ok(())
     }
 
-    /// Every byte, and demand 3's sums in the other desk's bytes.
-    fn compare_bytes(&mut self) -> Result<(), String> {
+    /// Every byte, and demand 3's sums in the other desk's bytes. A refused call and a read change
+    /// none.
+    fn compare_bytes(&mut self, changes: bool) -> Result<(), String> {
         let (second, other) = (self.second.bytes(), self.other.bytes());
+        if !changes && !self.last.is_empty() && self.last != other {
+            return Err("a call that was not accepted has changed the book".to_string());
+        }
         if second != other {
             let place = second.iter().zip(&other).position(|(a, b)| a != b);
             return Err(format!("the book's bytes differ, first at {place:?}"));
         }
+        self.last = other;
+        let other = &self.last;
         let ledger = match &self.ledger {
             None => return Ok(()),
             Some(ledger) => ledger,
         };
-        let holdings = holdings_of(&other);
+        let holdings = holdings_of(other);
         for p in 0..PARTICIPANTS {
             for s in 0..SECURITIES {
                 if holdings[p][s] != ledger.sums.lodged(p, s) {
@@ -259,14 +270,14 @@ impl Run<'_> {
             }
         }
         for (e, paper) in ledger.exposures().iter().enumerate() {
-            let used = match USEDS.get(&other, e) {
+            let used = match USEDS.get(other, e) {
                 0 => None,
                 _ => Some([
-                    EXPOSURE_GIVERS.get(&other, e),
-                    EXPOSURE_TAKERS.get(&other, e),
-                    EXPOSURE_BASKETS.get(&other, e),
-                    EXPOSURE_CLOSINGS.get(&other, e),
-                    EXPOSURE_AMOUNTS.get(&other, e),
+                    EXPOSURE_GIVERS.get(other, e),
+                    EXPOSURE_TAKERS.get(other, e),
+                    EXPOSURE_BASKETS.get(other, e),
+                    EXPOSURE_CLOSINGS.get(other, e),
+                    EXPOSURE_AMOUNTS.get(other, e),
                 ]),
             };
             let paper = paper.map(|(key, amount)| {

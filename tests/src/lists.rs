@@ -761,8 +761,8 @@ impl Maker {
         self.put(12, &[]);
         self.put(10, &[]);
         let day = self.today();
-        // Twelve are worth the next two FOPs and little more.
-        let kept = self.random.one_of(&[12, 13, 20, 64]);
+        // Thirteen are worth one FOP and a half, and something more.
+        let kept = self.random.one_of(&[13, 14, 15, 64]);
         for security in 0..64 {
             self.put(1, &[security, 1_000_000, 2_500_000, 0, day]);
             if security >= kept {

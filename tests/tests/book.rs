@@ -93,10 +93,10 @@ fn every_wrong_turn_is_found() {
 #[test]
 fn a_difference_is_shown_by_a_short_list() {
     for (turn, most) in [
-        (Turn::LatestFirst, 9),
-        (Turn::FirstPairOnly, 12),
-        (Turn::ToleranceOffByOne, 10),
-        (Turn::FreesNamedExposure, 16),
+        (Turn::LatestFirst, 12),
+        (Turn::FirstPairOnly, 16),
+        (Turn::ToleranceOffByOne, 12),
+        (Turn::FreesNamedExposure, 20),
     ] {
         let make = || -> Box<dyn Desk> { Box::new(SecondDesk::wrong(turn)) };
         let differs = |list: &List| run(list, &mut *make(), WITHOUT_BYTES, &mut Coverage::new());
