@@ -261,10 +261,10 @@ impl Run<'_> {
             Some(ledger) => ledger,
         };
         let holdings = holdings_of(other);
-        for p in 0..PARTICIPANTS {
-            for s in 0..SECURITIES {
-                if holdings[p][s] != ledger.sums.lodged(p, s) {
-                    let (held, paper) = (holdings[p][s], ledger.sums.lodged(p, s));
+        for (p, nominals) in holdings.iter().enumerate() {
+            for (s, &held) in nominals.iter().enumerate() {
+                let paper = ledger.sums.lodged(p, s);
+                if held != paper {
                     return Err(format!("participant {p}, security {s}: {held}, on paper {paper}"));
                 }
             }
@@ -322,14 +322,14 @@ impl Run<'_> {
                 lodged[usize::from(key.giver)][s] += self.other.read(question)[1];
             }
         }
-        for p in 0..PARTICIPANTS {
+        for (p, nominals) in lodged.iter_mut().enumerate() {
             if self.second.book().participants[p].is_none() {
                 continue;
             }
             for s in set_up(self.second.book()) {
                 let question = Question::Account { participant: p as u64, security: s as u64 };
-                lodged[p][s] += self.other.read(question)[1];
-                same("what a giver lodged", ledger.sums.lodged(p, s), lodged[p][s])?;
+                nominals[s] += self.other.read(question)[1];
+                same("what a giver lodged", ledger.sums.lodged(p, s), nominals[s])?;
             }
         }
         Ok(())

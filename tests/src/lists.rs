@@ -212,12 +212,15 @@ impl Maker {
         if numbers.is_empty() || !self.random.once_in(rate) {
             return self.put(kind, numbers);
         }
+        // One number or two: the lowest code counts.
         let mut numbers = numbers.to_vec();
-        let place = self.random.below(numbers.len() as u64) as usize;
-        let near = self.random.near(numbers[place]);
-        let any = self.random.any_length();
-        let ends = [0, 1, 2, 3, 15, 16, 31, 32, 63, 64, 255, 10_000, u64::MAX, near, near, any];
-        numbers[place] = self.random.one_of(&ends);
+        for _ in 0..self.random.between(1, 2) {
+            let place = self.random.below(numbers.len() as u64) as usize;
+            let near = self.random.near(numbers[place]);
+            let any = self.random.any_length();
+            let ends = [0, 1, 2, 3, 15, 16, 31, 32, 63, 64, 255, 10_000, u64::MAX, near, near, any];
+            numbers[place] = self.random.one_of(&ends);
+        }
         self.put(kind, &numbers)
     }
 
@@ -734,6 +737,50 @@ impl Maker {
         }
     }
 
+    /// A security loses its value, then part of an exposure that holds it is returned.
+    fn lose_value(&mut self) {
+        let e = match self.used_exposure() {
+            None => return,
+            Some(e) => e,
+        };
+        let used = self.book().exposures[e].expect("a used exposure");
+        let today = self.today();
+        for s in 0..SECURITIES {
+            let lot = u64::from(self.book().securities[s].lot);
+            if self.book().positions[e][s] > 0 && self.random.once_in(2) {
+                let price = self.one_of(&[1, 100, 1_000, 4_000, 9_000]);
+                self.put(1, &[s as u64, lot, price, 0, today]);
+            }
+        }
+        let (giver, taker) = (u64::from(used.key.giver), u64::from(used.key.taker));
+        let amount = (used.amount - used.amount / self.random.between(2, 20)).max(1);
+        for side in [0, 1] {
+            let amount = amount.min(GREATEST_AMOUNT);
+            self.put(7, &[side, giver, taker, e as u64, amount, today, 7]);
+        }
+        self.put(9, &[]);
+    }
+
+    /// Requests that wait until no row is left; then a pair of a new key.
+    fn fill_rows(&mut self) {
+        let today = self.today();
+        let (giver, taker) = self.parties();
+        let (basket, amount) = (self.basket(), 10 * u64::from(self.book().tolerance));
+        for _ in 0..ROWS {
+            let reference = self.reference();
+            if self.put(6, &[0, giver, taker, basket, amount, today, 0, reference]) != 0 {
+                break;
+            }
+        }
+        let closing = self.open_after(today, 40);
+        for side in [0, 1] {
+            self.put(6, &[side, giver, taker, basket, amount, today, closing, 7]);
+        }
+        if let Some(request) = self.used_row(|request| request.partner.is_none()) {
+            self.enter(&request, request.side.other());
+        }
+    }
+
     /// One exposure up to 10^13. At this price an account of all securities is worth 8 × 10^12, so
     /// the bonds are given back as ineligible once, and picked again.
     fn reach_the_limit(&mut self) {
@@ -762,7 +809,7 @@ impl Maker {
         self.put(10, &[]);
         let day = self.today();
         // Thirteen are worth one FOP and a half, and something more.
-        let kept = self.random.one_of(&[13, 14, 15, 64]);
+        let kept = if room == GREATEST_AMOUNT / 2 { self.random.between(12, 15) } else { 64 };
         for security in 0..64 {
             self.put(1, &[security, 1_000_000, 2_500_000, 0, day]);
             if security >= kept {
@@ -781,6 +828,8 @@ impl Maker {
         match self.theme {
             Theme::Crowd if self.random.once_in(40) => return self.burst(),
             Theme::Keys if self.random.once_in(40) => return self.spread(),
+            Theme::Tiny | Theme::Odd if self.random.once_in(40) => return self.lose_value(),
+            Theme::Keys | Theme::Crowd if self.random.once_in(150) => return self.fill_rows(),
             _ if self.random.once_in(60) => return self.burst(),
             _ => {}
         }

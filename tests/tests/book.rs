@@ -7,12 +7,14 @@ use yordzepa_tests::lists::{list, List, Theme};
 use yordzepa_tests::second::book::Turn;
 use yordzepa_tests::second::notes::Branch;
 
-/// Lists of each theme, and calls in each.
+/// Lists of each theme, and calls in each. The environment's SEEDS asks for more.
 const SEEDS: u64 = 45;
 const LENGTH: usize = 500;
 
 fn lists() -> impl Iterator<Item = List> {
-    (1..=SEEDS).flat_map(|seed| Theme::ALL.iter().map(move |&theme| list(theme, seed, LENGTH)))
+    let seeds = std::env::var("SEEDS").ok().and_then(|number| number.parse().ok());
+    (1..=seeds.unwrap_or(SEEDS))
+        .flat_map(|seed| Theme::ALL.iter().map(move |&theme| list(theme, seed, LENGTH)))
 }
 
 const CHECKS: Checks = Checks { bytes: true, reads: 4, sweep: 500 };

@@ -406,11 +406,19 @@ pub enum Turn {
     ClosingDayLater,
     /// Unpaired requests that settle today stay.
     UnpairedStay,
+    /// The number 1,000,000,000 is given.
+    NumberOffByOne,
+    /// Requests: 7 before 5.
+    DayBeforeSetUp,
+    /// Requests: 15 before 14.
+    ExposureBeforeRow,
+    /// Recall: 10 before 12.
+    TooMuchBeforeNone,
 }
 
 impl Turn {
     /// Every wrong turn.
-    pub const WRONG: [Turn; 28] = [
+    pub const WRONG: [Turn; 32] = [
         Turn::LatestFirst,
         Turn::LowestRowFirst,
         Turn::WaitingTakerFirst,
@@ -439,5 +447,9 @@ impl Turn {
         Turn::FreesNamedExposure,
         Turn::ClosingDayLater,
         Turn::UnpairedStay,
+        Turn::NumberOffByOne,
+        Turn::DayBeforeSetUp,
+        Turn::ExposureBeforeRow,
+        Turn::TooMuchBeforeNone,
     ];
 }

@@ -110,6 +110,9 @@ impl Program {
         if let Deal::Fop { .. } = request.deal {
             refuse_if(request.amount < u64::from(book.tolerance), RANGE)?;
         }
+        if self.takes(Turn::DayBeforeSetUp) {
+            self.request_days(request)?;
+        }
         // 5
         let unknown =
             book.profile(request.giver).is_none() || book.profile(request.taker).is_none();
@@ -117,12 +120,8 @@ impl Program {
         if let Deal::Fop { basket, .. } = request.deal {
             refuse_if(book.baskets[usize::from(basket)].is_none(), NOT_SET_UP)?;
         }
-        // 7: "closing 0 is no day"
-        let settlement = request.settlement;
-        refuse_if(!self.days.is_open(settlement) || settlement < book.today, DAY)?;
-        if let Deal::Fop { closing, .. } = request.deal {
-            refuse_if(closing != 0 && (!self.days.is_open(closing) || closing <= settlement), DAY)?;
-        }
+        // 7
+        self.request_days(request)?;
         // 8, 9
         refuse_if(request.giver == request.taker, SAME_PARTY)?;
         let automatic = book.takes_automatically(request.taker, request.giver);
@@ -135,24 +134,55 @@ impl Program {
             });
             refuse_if(!theirs, NONE_SUCH)?;
         }
-        // 14
         let pairing = self.pairing(request, notes);
+        if self.takes(Turn::ExposureBeforeRow) {
+            self.exposure_row(request, pairing)?;
+        }
+        // 14, 15
+        self.request_rows(pairing, notes)?;
+        self.exposure_row(request, pairing)?;
+        Ok(pairing)
+    }
+
+    /// "any day named .. not open or above 146,096 (closing 0 is no day)"; "settlement before today;
+    /// closing not after settlement".
+    fn request_days(&self, request: &Request) -> Result<(), u64> {
+        let settlement = request.settlement;
+        refuse_if(!self.days.is_open(settlement) || settlement < self.book.today, DAY)?;
+        match request.deal {
+            Deal::Fop { closing, .. } if closing != 0 => {
+                refuse_if(!self.days.is_open(closing) || closing <= settlement, DAY)
+            }
+            _ => Ok(()),
+        }
+    }
+
+    /// "too few request rows, or numbers above 999,999,999": two of each where a taker request is
+    /// made.
+    fn request_rows<N: Notes>(&self, pairing: Pairing, notes: &mut N) -> Result<(), u64> {
         let needed = if pairing == Pairing::Made { 2 } else { 1 };
-        let free = book.requests.iter().filter(|row| row.is_none()).take(needed).count();
+        let free = self.book.requests.iter().filter(|row| row.is_none()).take(needed).count();
         if free < needed {
             notes.reached(if free == 0 { Branch::NoRow } else { Branch::OneRowOfTwo });
             return Err(NO_ROW);
         }
-        if book.next_number as usize + needed - 1 > LAST_NUMBER as usize {
+        let last = self.book.next_number as usize + needed - 1;
+        let greatest = LAST_NUMBER as usize + usize::from(self.takes(Turn::NumberOffByOne));
+        if last > greatest {
             notes.reached(Branch::NoNumber);
             return Err(NO_ROW);
         }
-        // 15
-        if let (Some(key), true) = (request.key(), pairing != Pairing::Alone) {
-            let row = book.exposure_of(key).or_else(|| book.lowest_free_exposure());
-            refuse_if(row.is_none(), NO_EXPOSURE)?;
-        }
-        Ok(pairing)
+        Ok(())
+    }
+
+    /// "pairing needs an exposure row and none is free".
+    fn exposure_row(&self, request: &Request, pairing: Pairing) -> Result<(), u64> {
+        let key = match request.key() {
+            Some(key) if pairing != Pairing::Alone => key,
+            _ => return Ok(()),
+        };
+        let row = self.book.exposure_of(key).or_else(|| self.book.lowest_free_exposure());
+        refuse_if(row.is_none(), NO_EXPOSURE)
     }
 
     /// Kind 8. Accepted: the row. "for kind 8, a whole settled row gives its owner 13 until day
@@ -179,8 +209,12 @@ impl Program {
         let bond = &self.book.securities[security];
         refuse_if(bond.set_up() && nominal % bond.lot != 0, RANGE)?;
         refuse_if(self.book.profile(giver).is_none() || !bond.set_up(), NOT_SET_UP)?;
+        let held = self.book.positions[exposure][security];
+        if self.takes(Turn::TooMuchBeforeNone) {
+            refuse_if(nominal > held, TOO_MUCH)?;
+        }
         let named = &self.book.exposures[exposure];
         refuse_if(named.map_or(true, |exposure| exposure.key.giver != giver), NONE_SUCH)?;
-        refuse_if(nominal > self.book.positions[exposure][security], TOO_MUCH)
+        refuse_if(nominal > held, TOO_MUCH)
     }
 }

@@ -18,10 +18,10 @@ impl Program {
         let mut gave = [false; EXPOSURES];
         let mut totals = Totals::default();
         if self.takes(Turn::MarkInOnePass) {
-            for exposure in 0..EXPOSURES {
-                gave[exposure] |= self.give_back_ineligible(exposure, &eligible, notes);
-                gave[exposure] |= self.free_marked(exposure, notes);
-                self.cover(exposure, &eligible, gave[exposure], &mut totals, notes);
+            for (exposure, gave) in gave.iter_mut().enumerate() {
+                *gave |= self.give_back_ineligible(exposure, &eligible, notes);
+                *gave |= self.free_marked(exposure, notes);
+                self.cover(exposure, &eligible, *gave, &mut totals, notes);
             }
         } else {
             for (exposure, gave) in gave.iter_mut().enumerate() {
