@@ -1,9 +1,11 @@
 //! Compares the proved libraries with a second program written from document 01.
 //!
 //! - `proved`: the libraries' exported functions; `engine`: the call and the reads on a book.
-//! - `second`: the second program, written to be read beside document 01, not for speed.
+//! - `second`: the second program, written to be read beside document 01.
+//! - `desk`: a program with a book, which can be the engine, the second program, or one with a wrong turn.
+//! - `lists`: lists of calls from a seed; `compare`: runs a list on two desks and shrinks what differs.
+//! - `image`: the book's bytes by docs/LAYOUT.md; `busy`: the book that a day-length benchmark begins with.
 //! - `plain`: ordinary Rust, which the benchmark measures the libraries against; `tabled`: a calendar out of tables, for scale.
-//! - `desk`: what the comparison asks of a program with a book; `image`: the book's bytes by docs/LAYOUT.md.
 
 pub mod answers;
 pub mod busy;

@@ -569,11 +569,23 @@ fn bytes_outside_the_layout_are_not_sound() {
         ("a use of 2", image::USEDS, 0, 2),
         ("a price of a security not set up", image::LOTS, 63, 0),
     ];
+    let mut damaged: Vec<(&str, Vec<u8>)> = Vec::new();
     for (name, table, row, number) in changes {
         let mut bytes = whole.clone();
         table.put(&mut bytes, row, number);
+        damaged.push((name, bytes));
+    }
+    // A return has no closing, not even an open day on both rows of its pair.
+    let mut bytes = whole.clone();
+    for row in 0..image::KINDS.rows {
+        if image::KINDS.get(&whole, row) == 7 {
+            image::CLOSINGS.put(&mut bytes, row, 366);
+        }
+    }
+    damaged.push(("a closing of a return", bytes));
+    for (name, bytes) in &damaged {
         for mut desk in [Box::new(SecondDesk::new()) as Box<dyn Desk>, under_test()] {
-            desk.lend(&bytes);
+            desk.lend(bytes);
             assert_eq!(desk.read(Question::Basket(0))[0], 2, "{name}");
             assert_eq!(desk.call(&record(9, &[])), [2, 0, 0, 0], "{name}");
         }

@@ -295,12 +295,7 @@ fn main() {
     age_line("age, quotes 1 to 10 open days old", &pairs(&mut random, 1, 10));
     age_line("age, quotes 250 open days old", &pairs(&mut random, 250, 250));
 
-    one_day_line(
-        "for scale: is open, plain from a table of bits",
-        &random_days,
-        raw::calendar_is_open,
-        tabled::is_open,
-    );
+    one_day_line("for scale: is open, plain from a table of bits", &random_days, raw::calendar_is_open, tabled::is_open);
 
     let holdings: Vec<[u64; 3]> = (0..50_000)
         .map(|_| {
