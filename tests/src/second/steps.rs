@@ -15,6 +15,15 @@ pub struct Totals {
     pub m: u64,
 }
 
+/// What a search for an equal request found.
+struct Earliest {
+    row: usize,
+    number: u32,
+    /// How many wait, and the lowest of their rows: for the count of branches.
+    count: usize,
+    lowest_row: usize,
+}
+
 /// "The answer is code, A, B, M."
 pub type Answer = [u64; 4];
 
@@ -124,57 +133,66 @@ impl Program {
     /// in all fields but side and reference".
     pub(super) fn pairing<N: Notes>(&self, request: &Request, notes: &mut N) -> Pairing {
         let automatic = self.book.takes_automatically(request.taker, request.giver);
-        let made = request.side == Side::Giver && automatic;
-        if made && !self.takes(Turn::WaitingTakerFirst) && !N::COUNTS {
-            return Pairing::Made;
+        if request.side == Side::Giver && automatic {
+            // Whether an equal one waits plays no part, but for the count of branches.
+            let wrong = self.takes(Turn::WaitingTakerFirst);
+            let beside = (N::COUNTS || wrong) && self.earliest_equal(request).is_some();
+            if !(beside && wrong) {
+                notes.reached(match beside {
+                    true => Branch::TakerMadeBesideWaiting,
+                    false => Branch::TakerMade,
+                });
+                return Pairing::Made;
+            }
         }
-        let mut earliest: Option<(u32, usize)> = None;
-        let (mut count, mut lowest_row) = (0, 0);
+        match self.earliest_equal(request) {
+            None => {
+                notes.reached(Branch::LeftAlone);
+                Pairing::Alone
+            }
+            Some(found) => {
+                notes.reached(match found.count {
+                    1 => Branch::PairedWithOne,
+                    _ => Branch::PairedWithEarliest,
+                });
+                if found.row != found.lowest_row {
+                    notes.reached(Branch::EarliestInHigherRow);
+                }
+                Pairing::Found(found.row)
+            }
+        }
+    }
+
+    /// "the earliest live unpaired request of the other side equal in all fields but side and
+    /// reference": the one with the lowest number, wherever its row stands.
+    fn earliest_equal(&self, request: &Request) -> Option<Earliest> {
+        let mut earliest: Option<Earliest> = None;
         for (row, waiting) in self.book.used_rows() {
             if waiting.partner.is_some()
-                || waiting.side != request.side.other()
+                || waiting.side == request.side
                 || !waiting.equals(request)
                 || !waiting.live()
             {
                 continue;
             }
-            if count == 0 {
-                lowest_row = row;
-            }
-            count += 1;
-            let earlier = earliest.map_or(true, |(number, _)| match self.turn {
-                Turn::LatestFirst => waiting.number > number,
-                Turn::LowestRowFirst => false,
-                // "Earliest" is the lowest number, wherever the row stands.
-                _ => waiting.number < number,
-            });
-            if earlier {
-                earliest = Some((waiting.number, row));
-            }
-        }
-        if made && !(self.takes(Turn::WaitingTakerFirst) && count > 0) {
-            notes.reached(Branch::TakerMade);
-            if count > 0 {
-                notes.reached(Branch::TakerMadeBesideWaiting);
-            }
-            return Pairing::Made;
-        }
-        match earliest {
-            None => {
-                notes.reached(Branch::LeftAlone);
-                Pairing::Alone
-            }
-            Some((_, row)) => {
-                notes.reached(match count {
-                    1 => Branch::PairedWithOne,
-                    _ => Branch::PairedWithEarliest,
-                });
-                if row != lowest_row {
-                    notes.reached(Branch::EarliestInHigherRow);
+            let number = waiting.number;
+            match &mut earliest {
+                None => earliest = Some(Earliest { row, number, count: 1, lowest_row: row }),
+                Some(found) => {
+                    found.count += 1;
+                    let earlier = match self.turn {
+                        Turn::LatestFirst => number > found.number,
+                        Turn::LowestRowFirst => false,
+                        _ => number < found.number,
+                    };
+                    if earlier {
+                        found.row = row;
+                        found.number = number;
+                    }
                 }
-                Pairing::Found(row)
             }
         }
+        earliest
     }
 
     /// 6, 7: "each request gets the next number from 1 (A)"; B is the partner's number, else 0.
