@@ -38,10 +38,10 @@ pub record Seen (b : List ℕ) (k seen : ℕ) : Type 0 where
   pub none : seen ≡ 0 → (j : ℕ) → j < k → getD b j 0 ≡ 0
   pub nothing : ((j : ℕ) → j < k → getD b j 0 ≡ 0) → seen ≡ 0
 
-or-left : (x y : ℕ) → bitOr x y ≡ 0 → x ≡ 0
+pub or-left : (x y : ℕ) → bitOr x y ≡ 0 → x ≡ 0
 or-left x y h = omega (arith, or-add-and x y, and-le-r x y)
 
-or-right : (x y : ℕ) → bitOr x y ≡ 0 → y ≡ 0
+pub or-right : (x y : ℕ) → bitOr x y ≡ 0 → y ≡ 0
 or-right x y h = omega (arith, or-add-and x y, and-le-l x y)
 
 module _ (b : List ℕ) where
