@@ -73,6 +73,26 @@ impl Maker {
     }
 }
 
+/// Nothing but the opening.
+pub fn opened() -> Start {
+    let mut maker = Maker { program: Program::new() };
+    maker.take(0, &[1, 10_000]);
+    maker.start()
+}
+
+/// The busy book's participants, securities, baskets and deposits; no row and no exposure.
+pub fn set_up() -> Start {
+    with_set_up().start()
+}
+
+fn with_set_up() -> Maker {
+    let mut maker = Maker { program: Program::new() };
+    for call in busy::set_up() {
+        maker.take_record(&call);
+    }
+    maker
+}
+
 /// 240 rows, 40 exposures with positions.
 pub fn busy() -> Start {
     Start::of(&busy::book())
@@ -178,10 +198,7 @@ pub fn key(exposure: u64) -> [u64; 4] {
 
 /// A book with that many exposures and no row.
 fn with_exposures(exposures: u64) -> Maker {
-    let mut maker = Maker { program: Program::new() };
-    for call in busy::set_up() {
-        maker.take_record(&call);
-    }
+    let mut maker = with_set_up();
     for exposure in 0..exposures {
         let [giver, taker, basket, closing] = key(exposure);
         maker.take(6, &[0, giver, taker, basket, 100_000_000, 1, closing, exposure]);

@@ -33,7 +33,6 @@ fn eight(kind: u64, numbers: impl Fn(u64) -> Vec<u64>) -> Vec<Call> {
 
 pub fn print(both: &mut Both) {
     let busy = books::busy();
-    let test = both.time(&busy, &sound_test());
     head(
         "Calls on a busy book",
         "Nanoseconds a call: some 240 rows and 40 exposures in use. Past test: the median \
@@ -48,13 +47,21 @@ pub fn print(both: &mut Both) {
     recalls(both, &busy);
     days(both, &busy);
     reads(both, &busy);
-    println!();
-    println!(
-        "The soundness test alone, by a read of an account: engine {} ns, second {} ns, ratio {}.",
-        nanoseconds(test.engine),
-        nanoseconds(test.second),
-        test.ratio()
-    );
+    soundness(both, &busy);
+}
+
+/// The test by itself, by a read and by an empty record.
+fn soundness(both: &mut Both, busy: &Start) {
+    let note = "Nanoseconds: a read of an account and a call with an empty record do little else.";
+    head("The soundness test alone", note, "Book", WIDTH, &HEADS[1..4]);
+    let (opened, set_up) = (books::opened(), books::set_up());
+    for (name, start) in [("opened", &opened), ("set up", &set_up), ("busy", busy)] {
+        for (entry, call) in [("read", sound_test()), ("call", Call::Record(Vec::new()))] {
+            let times = both.time(start, &call);
+            let numbers = [nanoseconds(times.engine), nanoseconds(times.second), times.ratio()];
+            row(&format!("{name}, by a {entry}"), WIDTH, &HEADS[1..4], &numbers);
+        }
+    }
 }
 
 /// Times a case and prints its row.
