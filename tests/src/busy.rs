@@ -67,7 +67,7 @@ pub fn book() -> Book {
     desk.book().clone()
 }
 
-fn set_up() -> Vec<Vec<u8>> {
+pub fn set_up() -> Vec<Vec<u8>> {
     let mut calls = vec![record(0, &[FIRST, TOLERANCE])];
     for participant in 0..8 + TAKERS {
         let mode = if participant < 8 || participant == BY_HAND { 2 } else { 0 };
@@ -94,11 +94,11 @@ fn set_up() -> Vec<Vec<u8>> {
     calls
 }
 
-fn price(security: u64, price: u64, quote: u64) -> Vec<u8> {
+pub fn price(security: u64, price: u64, quote: u64) -> Vec<u8> {
     record(1, &[security, 100, price, 100 + 10 * security, quote])
 }
 
-fn basket_of(giver: u64, taker: u64) -> u64 {
+pub fn basket_of(giver: u64, taker: u64) -> u64 {
     (giver + 3 * taker) % BASKETS
 }
 

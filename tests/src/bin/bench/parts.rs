@@ -1,8 +1,9 @@
-//! Measures the proved libraries against plain Rust (src/plain.rs), in one run.
+//! The proved libraries that work without the book, beside plain Rust (src/plain.rs).
 //!
 //! All inputs and outputs are in warm buffers. Each line takes the two sides in turn for several
-//! rounds and prints the fastest round of each. Nothing here passes or fails by time.
+//! rounds and prints the fastest round of each.
 
+use crate::table::{head, nanoseconds, ratio, row};
 use std::time::Instant;
 use yordzepa_tests::answers::{
     Answer, FreeAnswer, PickAnswer, Reading, Report, COLUMNS, FIELDS, SECURITIES,
@@ -13,6 +14,8 @@ use yordzepa_tests::random::Random;
 use yordzepa_tests::tabled;
 
 const ROUNDS: usize = 31;
+const WIDTH: usize = 47;
+const HEADS: [&str; 3] = ["proved", "plain", "ratio"];
 const LAST_DAY: u64 = 146_096;
 
 /// Hides a value from the optimizer (std's own came with Rust 1.66).
@@ -35,7 +38,8 @@ fn line(name: &str, calls: usize, mut proved: impl FnMut() -> u64, mut plain: im
         best[1] = best[1].min(end.duration_since(middle).as_nanos() as f64);
     }
     let [proved, plain] = best.map(|nanoseconds| nanoseconds / calls as f64);
-    println!("{name:<47} {proved:>9.2} {plain:>9.2} {:>7.2}", proved / plain);
+    let numbers = [nanoseconds(proved), nanoseconds(plain), ratio(proved, plain)];
+    row(name, WIDTH, &HEADS, &numbers);
 }
 
 /// Sums an answer, so that the sides are compared in every round.
@@ -262,14 +266,14 @@ fn check_plain(random: &mut Random, open: &[u64], desks: &[Desk]) {
     }
 }
 
-fn main() {
+pub fn print() {
     let mut random = Random::new(0xbe2c_0000_0000_0001);
     let open: Vec<u64> = (0..=LAST_DAY).filter(|&day| plain::is_open(day).value == 1).collect();
     let desks = desks(&mut random, &open, 32);
     check_plain(&mut random, &open, &desks);
 
-    println!("Nanoseconds per call, the fastest of {ROUNDS} rounds, proved and plain in turn; buffers are warm.");
-    println!("{:<47} {:>9} {:>9} {:>7}", "", "proved", "plain", "ratio");
+    let note = format!("Nanoseconds a call, the fastest of {ROUNDS} rounds; buffers are warm.");
+    head("Parts without the book", &note, "Function", WIDTH, &HEADS);
 
     let all_days: Vec<u64> = (0..=LAST_DAY).collect();
     let random_days: Vec<u64> = (0..50_000).map(|_| random.below(LAST_DAY + 1)).collect();
@@ -295,7 +299,12 @@ fn main() {
     age_line("age, quotes 1 to 10 open days old", &pairs(&mut random, 1, 10));
     age_line("age, quotes 250 open days old", &pairs(&mut random, 250, 250));
 
-    one_day_line("for scale: is open, plain from a table of bits", &random_days, raw::calendar_is_open, tabled::is_open);
+    one_day_line(
+        "for scale: is open, plain from a table of bits",
+        &random_days,
+        raw::calendar_is_open,
+        tabled::is_open,
+    );
 
     let holdings: Vec<[u64; 3]> = (0..50_000)
         .map(|_| {
