@@ -1,6 +1,6 @@
 -- Positions added up, one nominal more, one exposure more; and tests of four in a row.
 -- Assumes nothing.
-use mathlib.Core.Path.{_≡_, refl, sym, ap, _∙_}
+use mathlib.Core.Path.{_≡_, sym, ap, _∙_}
 use mathlib.Core.Bool.{Bool, true, false, not, _&&_, cond, and-true}
 use mathlib.Core.List.{List}
 use mathlib.Core.Logic.{⊎-elim}

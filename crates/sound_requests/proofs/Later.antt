@@ -1,20 +1,20 @@
 -- The later row of a pair whose earlier row is sound: what the two have in common is sound already.
 -- Assumes nothing.
-use mathlib.Core.Path.{_≡_, refl, sym, ap, _∙_}
-use mathlib.Core.Bool.{Bool, true, false, not, _&&_, cond, and-false}
+use mathlib.Core.Path.{_≡_, sym, _∙_}
+use mathlib.Core.Bool.{Bool, true, false, not, _&&_, and-false}
 use mathlib.Core.Logic.{_⊎_, inl, inr, ⊎-elim}
 use Prim.Native.Nat.{ℕ, _+_, _-_, _≤_, _<_}
 use native.Mathlib.Decide.{ℕ-discrete}
 use native.Mathlib.Omega.{arith}
-use lib.Dec.{eqb, leb, ltb}
+use lib.Dec.{leb}
 use borrow.Author.Tests.{ne-eqb, lt-leb, le-ltb, leb-true, leb-false, not-false}
 use Rattle.laws.proofs.Cases.{either}
 use Rattle.calendar.specs.Target.{openDay}
-use Rattle.book.specs.Layout.{nextNumber, numbers, kinds, sides, givers, takers, objects, amounts, settlements, closings, settleds, partners, pairPartials, cancels, ends}
+use Rattle.book.specs.Layout.{nextNumber, numbers, settlements, partners, cancels}
 use Rattle.book.specs.State.{State}
 use Rattle.rules.specs.Requests.{isUsed, isPaired, isReturn, partnerOf, exposureOfFop}
-use Rattle.rules.specs.Sound.{soundFields, soundMarks, soundPair, soundPaired, soundRow}
-use Rattle.facts.proofs.Rows.{Parties, Fop, Return, Kind, fop, return, Fields, Pair, Paired, used-fields, used-paired, unused-blank, paired-sound}
+use Rattle.rules.specs.Sound.{soundFields, soundPaired, soundRow}
+use Rattle.facts.proofs.Rows.{Kind, fop, return, Fields, Pair, Paired, used-fields, used-paired, unused-blank, paired-sound}
 use Rattle.sound_requests.specs.Rows.{Passed, Later}
 
 module _ (s : State) (i j : ℕ) (l : Later s i j) where

@@ -1,11 +1,10 @@
 -- Numbers by their marks, exposures by their hints, and several numbers of a row in one.
 -- Assumes nothing.
-use mathlib.Core.Path.{_≡_, refl, sym, ap, _∙_}
-use mathlib.Core.Bool.{Bool, true, false, not, or-true}
+use mathlib.Core.Path.{_≡_, sym, ap, _∙_}
+use mathlib.Core.Bool.{Bool, true, false, or-true}
 use mathlib.Core.List.{List}
 use mathlib.Core.Logic.{⊎-elim}
 use Prim.Native.Nat.{ℕ, zero, suc, _+_, _%_, _≤_, _<_}
-use native.Mathlib.Nat.{mod-lt}
 use native.Mathlib.Decide.{ℕ-discrete}
 use native.Mathlib.Omega.{arith}
 use lib.Bits.{bitOr, bitXor, or-zero-l, xor-add-and, xor-self, and-le-l, and-le-r}
@@ -13,7 +12,7 @@ use lib.Dec.{eqb, ltb}
 use lib.ListN.{length, getD, set, length-set, replicate, length-replicate}
 use lib.Seq.{getD-set-same, getD-set-other}
 use borrow.Author.Tests.{eq-eqb, ne-eqb, eqb-true, lt-ltb}
-use Rattle.laws.specs.Search.{all, least}
+use Rattle.laws.specs.Search.{least}
 use Rattle.laws.proofs.Cases.{either, clash}
 use Rattle.laws.proofs.Least.{all-at, all-same, least-hit, least-miss}
 use Rattle.book.specs.Layout.{numbers, kinds, givers, takers, objects, amounts, settlements, closings}
@@ -27,23 +26,33 @@ use Rattle.sound_requests.specs.declared.Request as declared
 
 -- a number at whose place there is no mark differs from all before; and one more mark
 module _ (s : State) (marks : List ℕ) (i : ℕ) (m : Marked s marks i) {n : ℕ} (nq : n ≡ s numbers i) where
-  other : getD marks (n % 4096) 0 ≡ 0 → (j : ℕ) → j < i → differs s i j ≡ true
-  other z j l = rw (ne-eqb (s numbers i) (s numbers j) (λ e.
-      let same : n ≡ s numbers j = nq ∙ e in
-      let mark : getD marks (n % 4096) 0 ≡ 1 = rw same (m .each j l) in
-      omega arith))
+  pub none-next : n ≡ 0 → Marked s marks (i + 1)
+  none-next z = record {
+    long = m .long;
+    each = λ j l u. elim (ℕ-discrete j i) [
+      | yes e ↦ absurd (u (rw e (sym nq ∙ z)))
+      | no e ↦ m .each j (omega arith) u
+    ];
+  }
 
-  pub not-marked : getD marks (n % 4096) 0 ≡ 0 → true ≡ distinctNumber s i
-  not-marked z = sym (rw (all-of (differs s i) i 0 (λ j a l. other z j (omega arith)), or-true))
+  module _ (used : n ≡ 0 → ⊥) where
+    other : getD marks (n % 4096) 0 ≡ 0 → (j : ℕ) → j < i → differs s i j ≡ true
+    other z j l = rw (ne-eqb (s numbers i) (s numbers j) (λ e.
+        let same : n ≡ s numbers j = nq ∙ e in
+        let mark : getD marks (n % 4096) 0 ≡ 1 = rw same (m .each j l (λ y. used (same ∙ y))) in
+        omega arith))
+
+    pub not-marked : getD marks (n % 4096) 0 ≡ 0 → true ≡ distinctNumber s i
+    not-marked z = sym (rw (all-of (differs s i) i 0 (λ j a l. other z j (omega arith)), or-true))
 
   pub marked-next : Marked s (set marks (n % 4096) 1) (i + 1)
   marked-next =
       let inside : n % 4096 < length marks = omega (arith, m .long) in
       record {
         long = simp length-set (m .long);
-        each = λ j l. elim (ℕ-discrete (s numbers j % 4096) (n % 4096)) [
+        each = λ j l u. elim (ℕ-discrete (s numbers j % 4096) (n % 4096)) [
           | yes q ↦ rw (q, getD-set-same marks (n % 4096) 1 0 inside)
-          | no q ↦ getD-set-other marks (n % 4096) (s numbers j % 4096) 1 0 q ∙ m .each j (before j l q)
+          | no q ↦ getD-set-other marks (n % 4096) (s numbers j % 4096) 1 0 q ∙ m .each j (before j l q) u
         ];
       }
     where
@@ -54,7 +63,7 @@ module _ (s : State) (marks : List ℕ) (i : ℕ) (m : Marked s marks i) {n : �
       ]
 
 pub marked-none : (s : State) → Marked s (replicate 4096 0) 0
-marked-none s = record { long = length-replicate {A = ℕ} 4096 0; each = λ j l. absurd (omega arith) }
+marked-none s = record { long = length-replicate {A = ℕ} 4096 0; each = λ j l u. absurd (omega arith) }
 
 -- a test that holds at a number finds one that is no higher
 least-found : (t : ℕ → Bool) (n i j : ℕ) → t j ≡ true → i ≤ j → j < i + n → least t n i ≤ j

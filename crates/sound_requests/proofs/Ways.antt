@@ -1,7 +1,7 @@
 -- What each way out of the tests of a request row shows.
 -- Assumes nothing.
 use mathlib.Core.Path.{_≡_, refl, sym, ap, _∙_}
-use mathlib.Core.Bool.{Bool, true, false, not, _&&_, _||_, cond, and-false, and-true, or-false}
+use mathlib.Core.Bool.{Bool, true, false, not, _||_, and-false, or-false}
 use Prim.Native.Nat.{ℕ, zero, suc, _+_, _-_, _≤_, _<_}
 use native.Mathlib.Nat.{sub-zero, zero-add}
 use native.Mathlib.Omega.{arith}
@@ -9,20 +9,12 @@ use lib.Dec.{eqb, leb, ltb}
 use borrow.Author.Tests.{eq-eqb, ne-eqb, le-leb, lt-leb, lt-ltb, le-ltb, not-true, not-false}
 use Rattle.laws.specs.Search.{all}
 use Rattle.calendar.specs.Target.{openDay}
-use Rattle.book.specs.Layout.{nextNumber, tolerance, numbers, kinds, sides, givers, takers, objects, amounts, settlements, closings, settleds, partners, pairPartials, cancels, ends, useds, exposureGivers, exposureTakers, exposureBaskets, exposureClosings}
+use Rattle.book.specs.Layout.{nextNumber, tolerance, numbers, kinds, sides, givers, takers, objects, amounts, settlements, settleds, partners, pairPartials, ends, useds, exposureGivers, exposureTakers, exposureBaskets, exposureClosings}
 use Rattle.book.specs.State.{State}
 use Rattle.rules.specs.Requests.{isReturn, hasKey, exposureWith, exposureOfFop, partnerOf}
-use Rattle.rules.specs.Sound.{between, openOrNone, soundParties, basketNamed, returnNames, soundFop, soundReturn, soundKind, soundMarks, soundFields, alike, blank, marksAlike, soundPair, soundPaired, soundUnpaired, soundRow, differs, distinctNumber}
+use Rattle.rules.specs.Sound.{between, openOrNone, soundParties, basketNamed, returnNames, soundFop, soundReturn, soundKind, soundFields, alike, blank, marksAlike, soundPair, soundPaired, soundRow, differs, distinctNumber}
 use Rattle.sound_requests.specs.Rows.{Reads, marksOf, unpairedOf, soundRest}
 use Rattle.sound_requests.specs.declared.Request as declared
-
--- a closing day
-module _ (d : ℕ) where
-  pub no-day : d ≡ 0 → true ≡ openOrNone d
-  no-day e = rw (eq-eqb d 0 e)
-
-  pub by-day : {b : Bool} → (d ≡ 0 → ⊥) → b ≡ openDay d → b ≡ openOrNone d
-  by-day n e = rw (ne-eqb d 0 n) e
 
 -- the marks of a row
 module _ (q : declared.Request) where

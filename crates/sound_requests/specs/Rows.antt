@@ -52,7 +52,7 @@ pub record Later (s : State) (i j : ℕ) : Type 0 where
   pub named : s partners i ≡ j + 1
   pub earlier : soundRow s j ≡ true
 
--- the numbers before i are marked, each at its place
+-- the numbers before i that are not 0 are marked, each at its place
 pub record Marked (s : State) (marks : List ℕ) (i : ℕ) : Type 0 where
   pub long : length marks ≡ 4096
-  pub each : (j : ℕ) → j < i → getD marks (s numbers j % 4096) 0 ≡ 1
+  pub each : (j : ℕ) → j < i → (s numbers j ≡ 0 → ⊥) → getD marks (s numbers j % 4096) 0 ≡ 1

@@ -8,7 +8,7 @@ ghost use Rattle.laws.specs.Search.{all};
 ghost use Rattle.book.specs.Layout.{bookLength, numbers, kinds, givers};
 ghost use Rattle.book.specs.State.{state};
 ghost use Rattle.rules.specs.Requests.{isReturn, hasKey, exposureWith, exposureOfFop};
-ghost use Rattle.rules.specs.Sound.{openOrNone, returnNames, soundFop, soundReturn, soundKind, soundMarks, soundFields, alike, blank, marksAlike, soundPair, soundPaired, soundUnpaired, soundRow, differs, distinctNumber};
+ghost use Rattle.rules.specs.Sound.{openOrNone, returnNames, soundFop, soundReturn, soundKind, soundFields, alike, blank, marksAlike, soundPair, soundPaired, soundRow, differs, distinctNumber};
 ghost use Rattle.sound_setup.specs.Days.{OpenDays};
 ghost use Rattle.sound_requests.specs.Rows.{Reads, marksOf, unpairedOf, soundRest, Later, Passed, Marked};
 use book::layout::AMOUNTS;
@@ -106,34 +106,28 @@ fn is_known_or_none(days: &[u64; 16], day: u64) -> bool
     sound_setup::is_known_open(days, day)
 }
 
-// The tests of a row are made one after the other and looked at in the end: a sound book passes them all.
 fn is_sound_fop(book: &[u8], q: Request, days: &[u64; 16]) -> bool
     requires { ⌜ (length (now book) ≡ bookLength) × Reads (state (now book)) q × OpenDays (now days) ⌝ }
     ensures { λ r. ⌜ r ≡ soundFop (state (now (book .entry))) (q .row) ⌝ }
 {
-    let named = sound_setup::is_basket_named(book, q.object);
     let least = book::get(book, TOLERANCE, 0);
-    let ranged = sound_setup::is_between(least, 1000000000000, q.amount);
-    let closes = is_known_or_none(days, q.closing);
-    if !named {
+    if !sound_setup::is_basket_named(book, q.object) {
         return false;
     }
-    if !ranged {
+    if !sound_setup::is_between(least, 1000000000000, q.amount) {
         return false;
     }
-    closes
+    is_known_or_none(days, q.closing)
 }
 
 fn is_sound_return(book: &[u8], q: Request) -> bool
     requires { ⌜ (length (now book) ≡ bookLength) × Reads (state (now book)) q ⌝ }
     ensures { λ r. ⌜ r ≡ soundReturn (state (now (book .entry))) (q .row) ⌝ }
 {
-    let named = does_return_name(book, q);
-    let ranged = sound_setup::is_between(1, 1000000000000, q.amount);
-    if !named {
+    if !does_return_name(book, q) {
         return false;
     }
-    if !ranged {
+    if !sound_setup::is_between(1, 1000000000000, q.amount) {
         return false;
     }
     q.closing == 0
@@ -174,26 +168,22 @@ fn are_sound_fields(book: &[u8], q: Request, days: &[u64; 16]) -> bool
     ensures { λ r. ⌜ r ≡ soundFields (state (now (book .entry))) (q .row) ⌝ }
 {
     let next = book::get(book, NEXT_NUMBER, 0);
-    let parties = sound_setup::are_sound_parties(book, q.giver, q.taker);
-    let kind = is_sound_kind(book, q, days);
-    let settles = sound_setup::is_known_open(days, q.settlement);
-    let marks = are_sound_marks(q);
     if next <= q.number {
         return false;
     }
     if 1 < q.side {
         return false;
     }
-    if !parties {
+    if !sound_setup::are_sound_parties(book, q.giver, q.taker) {
         return false;
     }
-    if !kind {
+    if !is_sound_kind(book, q, days) {
         return false;
     }
-    if !settles {
+    if !sound_setup::is_known_open(days, q.settlement) {
         return false;
     }
-    marks
+    are_sound_marks(q)
 }
 
 // Is one of two sides 0 and the other 1?
@@ -242,7 +232,8 @@ fn are_marks_alike(book: &[u8], q: Request, j: usize) -> bool
     q.partial == partial
 }
 
-// Two rows that are paired: they name each other, their sides are opposite, and the rest is equal.
+// Two rows that are paired: they name each other, their sides are opposite, and the rest is equal. The partner's row is read
+// before the tests, all at once.
 fn is_sound_pair(book: &[u8], q: Request, j: usize) -> bool
     requires { ⌜ (length (now book) ≡ bookLength) × Reads (state (now book)) q ⌝ }
     ensures { λ r. ⌜ r ≡ soundPair (state (now (book .entry))) (q .row) j ⌝ }
@@ -252,13 +243,13 @@ fn is_sound_pair(book: &[u8], q: Request, j: usize) -> bool
     }
     let partner = book::get(book, PARTNERS, j);
     let kind = book::get(book, KINDS, j);
-    let opposite = are_opposite(q.side, book::get(book, SIDES, j));
+    let side = book::get(book, SIDES, j);
     let terms = are_terms_alike(book, q, j);
     let marks = are_marks_alike(book, q, j);
     if partner != q.row as u64 + 1 {
         return false;
     }
-    if !opposite {
+    if !are_opposite(q.side, side) {
         return false;
     }
     if q.kind != kind {
@@ -374,12 +365,10 @@ fn is_sound_paired(book: &[u8], hints: &[u8; 1024], q: Request) -> bool
     ensures { λ r. ⌜ r ≡ soundPaired (state (now (book .entry))) (q .row) ⌝ }
 {
     let j = (q.partner - 1) as usize;
-    let pair = is_sound_pair(book, q, j);
-    let belongs = does_belong(book, hints, q);
-    if !pair {
+    if !is_sound_pair(book, q, j) {
         return false;
     }
-    belongs
+    does_belong(book, hints, q)
 }
 
 fn is_sound_unpaired(q: Request) -> bool
@@ -408,12 +397,10 @@ fn is_sound_first(book: &[u8], hints: &[u8; 1024], days: &[u64; 16], i: usize) -
     ensures { λ r. ⌜ r ≡ soundRow (state (now (book .entry))) i ⌝ }
 {
     let q = request_at(book, i);
-    let fields = are_sound_fields(book, q, days);
-    let rest = is_sound_rest(book, hints, q);
-    if !fields {
+    if !are_sound_fields(book, q, days) {
         return false;
     }
-    rest
+    is_sound_rest(book, hints, q)
 }
 
 // The later row i of a pair whose earlier row j is sound: where they name each other, all that they have in common is sound.
@@ -536,29 +523,22 @@ fn is_distinct_number(book: &[u8], i: usize) -> bool
     true
 }
 
-// The same by the marks: a number at whose place there is none differs from all before.
-fn is_new_number(book: &[u8], marks: &[u8; 4096], i: usize) -> bool
+// The same by the marks: a number at whose place there is none differs from all before. It leaves its own.
+fn is_new_number(marks: &mut [u8; 4096], book: &[u8], i: usize) -> bool
     requires { ⌜ (length (now book) ≡ bookLength) × (i < 256) × Marked (state (now book)) (now marks) i ⌝ }
-    ensures { λ r. ⌜ r ≡ distinctNumber (state (now (book .entry))) i ⌝ }
+    ensures { λ r. ⌜ (r ≡ distinctNumber (state (now (book .entry))) i) × Marked (state (now (book .entry))) (now (marks .exit)) (i + 1) ⌝ }
 {
     let number = book::get(book, NUMBERS, i);
     if number == 0 {
         return true;
     }
     let place = (number % 4096) as usize;
-    if marks[place] == 0 {
+    let mark = marks[place];
+    marks[place] = 1;
+    if mark == 0 {
         return true;
     }
     is_distinct_number(book, i)
-}
-
-fn mark_number(marks: &mut [u8; 4096], book: &[u8], i: usize)
-    requires { ⌜ (length (now book) ≡ bookLength) × (i < 256) × Marked (state (now book)) (now marks) i ⌝ }
-    ensures { λ _. ⌜ Marked (state (now (book .entry))) (now (marks .exit)) (i + 1) ⌝ }
-{
-    let number = book::get(book, NUMBERS, i);
-    let place = (number % 4096) as usize;
-    marks[place] = 1;
 }
 
 pub fn are_distinct_numbers(book: &[u8]) -> bool
@@ -568,10 +548,9 @@ pub fn are_distinct_numbers(book: &[u8]) -> bool
     let mut marks = [0u8; 4096];
     let mut i: usize = 0;
     while i < 256 {
-        if !is_new_number(book, &marks, i) {
+        if !is_new_number(&mut marks, book, i) {
             return false;
         }
-        mark_number(&mut marks, book, i);
         i += 1;
     }
     true

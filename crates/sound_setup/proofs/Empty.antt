@@ -1,7 +1,7 @@
 -- Bytes that are all 0: one number that has seen them, and the rows of four bytes that they are.
 -- Assumes nothing.
-use mathlib.Core.Path.{_≡_, refl, sym, ap, _∙_}
-use mathlib.Core.Bool.{Bool, true, false}
+use mathlib.Core.Path.{_≡_, refl, sym, _∙_}
+use mathlib.Core.Bool.{Bool, true}
 use mathlib.Core.List.{List}
 use mathlib.Core.Logic.{⊎-elim}
 use Prim.Native.Nat.{ℕ, zero, suc, _+_, _*_, _/_, _%_, _≤_, _<_}
@@ -12,7 +12,7 @@ use lib.Bits.{bitOr, or-add-and, and-le-l, and-le-r, or-zero-l}
 use lib.Dec.{eqb}
 use lib.ListN.{length, getD, take, drop, length-take, length-drop}
 use lib.Seq.{getD-take, getD-drop}
-use borrow.Author.Tests.{eq-eqb, ne-eqb, eqb-true}
+use borrow.Author.Tests.{eq-eqb, eqb-true}
 use Rattle.laws.specs.Numbers.{numberAt}
 use Rattle.laws.specs.Search.{all}
 use Rattle.laws.specs.Sum.{sum}

@@ -1,11 +1,11 @@
 // Document 01's soundness sentence, of what is set up: the book's head, securities, participants, baskets, spare rows.
 ghost use mathlib.Core.Bool.{true};
 ghost use mathlib.Core.Path.{_≡_};
-ghost use Prim.Native.Nat.{_<_, _+_, _≤_};
+ghost use Prim.Native.Nat.{_<_, _+_};
 ghost use lib.ListN.{length};
 ghost use lib.Dec.{eqb};
 ghost use Rattle.laws.specs.Search.{all};
-ghost use Rattle.book.specs.Layout.{bookLength, tableCount, rowsOf, spares};
+ghost use Rattle.book.specs.Layout.{bookLength, tableCount, rowsOf};
 ghost use Rattle.book.specs.State.{state};
 ghost use Rattle.calendar.specs.Target.{openDay};
 ghost use Rattle.rules.specs.Sound.{between, openOrNone, soundHead, soundSecurity, soundProfile, soundParticipant, soundBasket, soundParties, basketNamed, same, alike, blank, isSpare};

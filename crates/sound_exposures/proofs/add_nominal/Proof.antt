@@ -1,6 +1,5 @@
 -- `sound_exposures::add_nominal` meets its contract.
 -- Assumes nothing.
-use Prim.Native.Nat.{_+_}
 use native.Mathlib.Omega.{arith}
 use Rattle.book.specs.State.{state}
 use Rattle.book.proofs.Images.{state-fits}

@@ -28,9 +28,6 @@ is-new-number-requires c κs = search needs
 returns : tie.Need-returns Inv-loop μ-loop
 returns c = search loop-fails
 
-mark-number-requires : tie.Need-mark-number-requires Inv-loop μ-loop
-mark-number-requires c κs = search needs
-
 add-i : tie.Need-add-i Inv-loop μ-loop
 add-i c = search needs
 
@@ -52,7 +49,6 @@ are-distinct-numbers-spec =
     loop-holds
     is-new-number-requires
     returns
-    mark-number-requires
     add-i
     loop-less
     loop-again

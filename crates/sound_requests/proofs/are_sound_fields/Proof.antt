@@ -8,32 +8,32 @@ use Rattle.sound_requests.proofs.are_sound_fields.Tie as tie
 get-requires : tie.Need-get-requires
 get-requires c κs = search needs
 
-are-sound-parties-requires : tie.Need-are-sound-parties-requires
-are-sound-parties-requires c κs = search needs
-
-is-sound-kind-requires : tie.Need-is-sound-kind-requires
-is-sound-kind-requires c κs = search needs
-
-is-known-open-requires : tie.Need-is-known-open-requires
-is-known-open-requires c κs = search needs
-
-are-sound-marks-requires : tie.Need-are-sound-marks-requires
-are-sound-marks-requires c κs = search needs
-
 returns : tie.Need-returns
 returns c = search late-number
 
 returns-2 : tie.Need-returns-2
 returns-2 c = search bad-side
 
+are-sound-parties-requires : tie.Need-are-sound-parties-requires
+are-sound-parties-requires c κs = search needs
+
 returns-3 : tie.Need-returns-3
 returns-3 c = search bad-parties
+
+is-sound-kind-requires : tie.Need-is-sound-kind-requires
+is-sound-kind-requires c κs = search needs
 
 returns-4 : tie.Need-returns-4
 returns-4 c = search bad-kind
 
+is-known-open-requires : tie.Need-is-known-open-requires
+is-known-open-requires c κs = search needs
+
 returns-5 : tie.Need-returns-5
 returns-5 c = search bad-settlement
+
+are-sound-marks-requires : tie.Need-are-sound-marks-requires
+are-sound-marks-requires c κs = search needs
 
 returns-6 : tie.Need-returns-6
 returns-6 c = search by-marks
@@ -43,13 +43,13 @@ are-sound-fields-spec =
     tie.close
     (tie.spec
     get-requires
-    are-sound-parties-requires
-    is-sound-kind-requires
-    is-known-open-requires
-    are-sound-marks-requires
     returns
     returns-2
+    are-sound-parties-requires
     returns-3
+    is-sound-kind-requires
     returns-4
+    is-known-open-requires
     returns-5
+    are-sound-marks-requires
     returns-6)

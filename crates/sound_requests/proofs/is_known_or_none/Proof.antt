@@ -1,6 +1,6 @@
 -- `sound_requests::is_known_or_none` meets its contract.
 -- Assumes nothing.
-use Rattle.sound_requests.proofs.Ways.{no-day, by-day}
+use Rattle.sound_setup.proofs.Ways.{no-day, by-day}
 use borrow.Author.Needs.{needs}
 use Rattle.sound_requests.proofs.is_known_or_none.Statement.{statement}
 use Rattle.sound_requests.proofs.is_known_or_none.Tie as tie

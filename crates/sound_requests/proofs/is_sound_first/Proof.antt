@@ -11,11 +11,11 @@ request-at-requires c κs = search needs
 are-sound-fields-requires : tie.Need-are-sound-fields-requires
 are-sound-fields-requires c κs = search needs
 
-is-sound-rest-requires : tie.Need-is-sound-rest-requires
-is-sound-rest-requires c κs = search needs
-
 returns : tie.Need-returns
 returns c = search bad-fields
+
+is-sound-rest-requires : tie.Need-is-sound-rest-requires
+is-sound-rest-requires c κs = search needs
 
 returns-2 : tie.Need-returns-2
 returns-2 c = search by-rest
@@ -26,6 +26,6 @@ is-sound-first-spec =
     (tie.spec
     request-at-requires
     are-sound-fields-requires
-    is-sound-rest-requires
     returns
+    is-sound-rest-requires
     returns-2)

@@ -17,9 +17,6 @@ get-requires-2 c κs = search needs
 get-requires-3 : tie.Need-get-requires-3
 get-requires-3 c κs = search needs
 
-are-opposite-requires : tie.Need-are-opposite-requires
-are-opposite-requires c κs = search needs
-
 are-terms-alike-requires : tie.Need-are-terms-alike-requires
 are-terms-alike-requires c κs = search needs
 
@@ -31,6 +28,9 @@ add-if2 c = search needs
 
 returns-2 : tie.Need-returns-2
 returns-2 c = search not-named
+
+are-opposite-requires : tie.Need-are-opposite-requires
+are-opposite-requires c κs = search needs
 
 returns-3 : tie.Need-returns-3
 returns-3 c = search same-side
@@ -52,11 +52,11 @@ is-sound-pair-spec =
     get-requires
     get-requires-2
     get-requires-3
-    are-opposite-requires
     are-terms-alike-requires
     are-marks-alike-requires
     add-if2
     returns-2
+    are-opposite-requires
     returns-3
     returns-4
     returns-5
