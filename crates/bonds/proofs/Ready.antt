@@ -1,30 +1,20 @@
 -- Where bonds may move: what a good book gives, and that the securities' columns depend on the securities alone.
 -- Assumes nothing.
-use mathlib.Core.Path.{_≡_, sym, _∙_}
+use mathlib.Core.Path.{_≡_}
 use mathlib.Core.Bool.{Bool}
 use Prim.Native.Nat.{ℕ, zero, suc, _+_, _*_, _/_, _%_, _<_}
 use native.Mathlib.Nat.{le-refl}
 use native.Mathlib.Omega.{arith}
-use lib.Seq.{ext-getD}
-use Rattle.laws.specs.Filled.{filled}
-use Rattle.laws.proofs.Filled.{filled-length, filled-at}
 use Rattle.book.specs.Layout.{lots, prices, haircuts, quotes, useds, exposureGivers, positions}
 use Rattle.book.specs.State.{State, columnsOf, Lowerable}
 use Rattle.rules.specs.Stock.{positionOf, pickFor, freeFor}
+use Rattle.facts.proofs.Filled.{filled-same}
 use Rattle.facts.proofs.Keeps.{Good}
 use Rattle.facts.proofs.Rows.{used-exposure}
 use Rattle.facts.proofs.Stock.{columns-bounded, columns-quoted, today-le, age-le, account-within, position-within, position-at}
 use Rattle.bond_laws.proofs.Lots.{pick-pledgeable, free-returnable, pledge-lowerable, giveBack-lowerable}
 use Rattle.bond_laws.proofs.Moving.{pledge-raisable, giveBack-raisable}
 use Rattle.bonds.specs.Moves.{Pledging, GivingBack, Pickable, Freeable}
-
--- lists filled by rules that agree
-filled-same : (f g : ℕ → ℕ) (n : ℕ) → ((i : ℕ) → i < n → f i ≡ g i) → filled f n n ≡ filled g n n
-filled-same f g n h =
-    ext-getD 0 (filled f n n) (filled g n n) (filled-length f n n ∙ sym (filled-length g n n))
-    (λ i l.
-    let b : i < n = omega (arith, filled-length f n n) in
-    filled-at f n n i (le-refl n) b ∙ h i b ∙ sym (filled-at g n n i (le-refl n) b))
 
 -- the same securities, the same columns
 module _ (s t : State) (lot : (i : ℕ) → t lots i ≡ s lots i) (price : (i : ℕ) → t prices i ≡ s prices i) (haircut : (i : ℕ) → t haircuts i ≡ s haircuts i) (quote : (i : ℕ) → t quotes i ≡ s quotes i) where
@@ -36,7 +26,7 @@ module _ (s t : State) (lot : (i : ℕ) → t lots i ≡ s lots i) (price : (i :
   each (suc (suc (suc (suc q)))) i l = absurd (omega arith)
 
   pub columns-same : columnsOf t ≡ columnsOf s
-  columns-same = filled-same (λ k. t (lots + k / 64) (k % 64)) (λ k. s (lots + k / 64) (k % 64)) 256 (λ k l. each (k / 64) (k % 64) (omega arith))
+  columns-same = filled-same (λ k. t (lots + k / 64) (k % 64)) (λ k. s (lots + k / 64) (k % 64)) 256 256 (λ k l. each (k / 64) (k % 64) (omega arith))
 
 module _ (s : State) (e : ℕ) where
   -- what Free gives back may move

@@ -19,8 +19,8 @@ use Rattle.rules.specs.Sound.{soundKind, soundPaired, soundRow, soundExposure, 
 use Rattle.facts.proofs.Facts.{Sound, all-of, below}
 use Rattle.facts.proofs.Keeps.{Good}
 use Rattle.facts.proofs.Rows.{Kind, fop, return, used-fields, no-exposure-sound, position-facts}
+use Rattle.facts.proofs.Searches.{least-same}
 use Rattle.facts.proofs.Truth.{Each, split}
-use Rattle.day_laws.proofs.Least.{least-same}
 use Rattle.day_laws.proofs.Remade.{remade, cleared-fits, among, stored-row, passed, row-ahead, turns-remade}
 
 -- a choice between one number and itself

@@ -1,7 +1,6 @@
 pub mod Closed
 pub mod Each
 pub mod Freed
-pub mod Least
 pub mod NextDay
 pub mod Paper
 pub mod Profiles

@@ -2,7 +2,7 @@
 -- Assumes nothing.
 use mathlib.Core.Path.{_≡_, refl, sym, ap, _∙_}
 use mathlib.Core.Bool.{true, false, cond}
-use mathlib.Core.List.{List, [], _∷_, _++_}
+use mathlib.Core.List.{[]}
 use mathlib.Core.Logic.{⊎-elim}
 use Prim.Native.Nat.{ℕ, zero, suc, _+_, _≤_, _<_}
 use native.Mathlib.Decide.{ℕ-discrete}
@@ -13,14 +13,8 @@ use Rattle.laws.proofs.Cases.{either}
 use Rattle.book.specs.Layout.{exposures}
 use Rattle.book.specs.State.{State}
 use Rattle.rules.specs.DayChange.{isExposureClosed, closings12}
-use Rattle.facts.proofs.Sums.{Sums, noted, allNoted}
-use Rattle.rules.specs.Outcome.{Event, closed}
-
--- one list of events after the other
-pub noted-append : (p : Sums) (xs ys : List Event) → allNoted p (xs ++ ys) ≡ allNoted (allNoted p xs) ys
-unfolding allNoted
-noted-append p [] ys = refl
-noted-append p (x ∷ xs) ys = noted-append (noted p x) xs ys
+use Rattle.facts.proofs.Sums.{Sums, noted, allNoted, noted-append, noted-one}
+use Rattle.rules.specs.Outcome.{closed}
 
 module _ (s : State) (day : ℕ) (p : Sums) where
   -- the paper after the exposures below n
@@ -29,7 +23,7 @@ module _ (s : State) (day : ℕ) (p : Sums) where
 
   told-closed : (n : ℕ) → isExposureClosed s day n ≡ true → told (suc n) ≡ noted (told n) (closed n (s exposures n))
   unfolding closings12 allNoted
-  told-closed n e = rw e (noted-append p (closings12 s day n) (closed n (s exposures n) ∷ []))
+  told-closed n e = rw e (noted-one p (closings12 s day n) (closed n (s exposures n)))
 
   told-left : (n : ℕ) → isExposureClosed s day n ≡ false → told (suc n) ≡ told n
   unfolding closings12 allNoted

@@ -23,9 +23,9 @@ use Rattle.rules.specs.Stock.{participantSetUp}
 use Rattle.facts.proofs.Facts.{Sound}
 use Rattle.facts.proofs.Keeps.{Good}
 use Rattle.facts.proofs.Rows.{head-facts, facts-head}
+use Rattle.facts.proofs.Searches.{least-holds}
 use Rattle.facts.proofs.Truth.{Each, split}
 use Rattle.day_laws.proofs.Each.{each-keeps}
-use Rattle.day_laws.proofs.Least.{least-holds}
 use Rattle.day_laws.proofs.Remade.{remade, among, stored-row, stored-fits, passed, row-ahead, turns-remade, tables-beside}
 
 -- an accepted next day is open

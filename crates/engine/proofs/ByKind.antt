@@ -1,10 +1,9 @@
 -- The code and the step of a record by its kind.
 -- Assumes nothing.
-use mathlib.Core.Path.{_≡_, refl, sym, ap, _∙_}
+use mathlib.Core.Path.{_≡_, refl, sym, _∙_}
 use mathlib.Core.Bool.{true}
 use mathlib.Core.List.{List}
-use Prim.Native.Nat.{ℕ, zero, suc, _+_, _*_, _≤_, _<_}
-use native.Mathlib.Decide.{ℕ-discrete, decLe, decLt}
+use Prim.Native.Nat.{ℕ, zero, suc, _+_, _*_, _<_}
 use native.Mathlib.Omega.{arith}
 use lib.ListN.{getD, length}
 use borrow.Author.Tests.{ltb-false}
@@ -15,13 +14,13 @@ use Rattle.rules.specs.Call.{stepOf}
 use Rattle.rules.specs.Codes.{openingRules, priceRules, basketRules, depositRules, withdrawalRules, fopRules, returnRules, cancelRules, recallRules, nextDayRules, codeOf}
 use Rattle.rules.specs.DayChange.{nextDay}
 use Rattle.rules.specs.Marking.{marked, recall}
-use Rattle.rules.specs.Outcome.{Step, lowest}
+use Rattle.rules.specs.Outcome.{lowest}
 use Rattle.rules.specs.Requesting.{entered, cancelled}
 use Rattle.rules.specs.Settlement.{settlement}
 use Rattle.rules.specs.SetUp.{opened, priced, enrolled, basketMade, deposited, withdrawn}
 use Rattle.rules.specs.Sound.{holding, sound}
+use Rattle.facts.proofs.Rules.{none-applies}
 use Rattle.setup.specs.Accounts.{AccountRoom, AccountHolds}
-use Rattle.setup_laws.proofs.Legal.{passed}
 use Rattle.engine.specs.Entry.{Taken, Accepted}
 use Rattle.totals.specs.Totals.{totalsOf}
 use Rattle.totals.specs.declared.Totals as totals
@@ -161,13 +160,13 @@ module _ (s : State) (r : List ℕ) where
   pub deposit-room : lowest (depositRules s r) ≡ 0 → AccountRoom s r
   unfolding depositRules holding
   deposit-room h =
-      let t = passed (depositRules s r) refl h in
+      let t = none-applies (depositRules s r) refl h in
       record { room = omega (arith, ltb-false 500000000 (holding s (getD r 0 0) (getD r 1 0) + getD r 2 0) (t .1 .1 .0)) }
 
   pub withdrawal-holds : lowest (withdrawalRules s r) ≡ 0 → AccountHolds s r
   unfolding withdrawalRules
   withdrawal-holds h =
-      let t = passed (withdrawalRules s r) refl h in
+      let t = none-applies (withdrawalRules s r) refl h in
       record { holds = ltb-false (s accounts (64 * getD r 0 0 + getD r 1 0)) (getD r 2 0) (t .1 .1 .0) }
 
 -- what the functions of a kind ask of the book and the record

@@ -1,6 +1,10 @@
 pub mod Facts
+pub mod Filled
 pub mod Keeps
+pub mod Ranges
 pub mod Rows
+pub mod Rules
+pub mod Searches
 pub mod Stock
 pub mod Sums
 pub mod Truth

@@ -1,7 +1,8 @@
 -- What the events of a step add up to, for each exposure row. The ledger's own sums are shown to be these in crates/ledger.
 -- Assumes nothing.
+use mathlib.Core.Path.{_≡_, refl}
 use mathlib.Core.Bool.{cond}
-use mathlib.Core.List.{List, [], _∷_}
+use mathlib.Core.List.{List, [], _∷_, _++_}
 use Prim.Native.Nat.{ℕ, _+_}
 use lib.Dec.{eqb}
 use Rattle.rules.specs.Outcome.{Event, given, settled, returned, closed}
@@ -28,3 +29,13 @@ noted p (closed e x) = record { settledIn = p .settledIn; returns = p .returns; 
 unfoldable pub allNoted : Sums → List Event → Sums
 allNoted p [] = p
 allNoted p (e ∷ es) = allNoted (noted p e) es
+
+-- one list of events after the other, and one event more
+pub noted-append : (p : Sums) (xs ys : List Event) → allNoted p (xs ++ ys) ≡ allNoted (allNoted p xs) ys
+unfolding allNoted
+noted-append p [] ys = refl
+noted-append p (x ∷ xs) ys = noted-append (noted p x) xs ys
+
+pub noted-one : (p : Sums) (xs : List Event) (e : Event) → allNoted p (xs ++ (e ∷ [])) ≡ noted (allNoted p xs) e
+unfolding allNoted
+noted-one p xs e = noted-append p xs (e ∷ [])

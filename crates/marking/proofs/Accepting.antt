@@ -8,7 +8,7 @@ use Prim.Native.Nat.{ℕ, _+_, _*_, _-_, _%_, _≤_, _<_}
 use native.Mathlib.Nat.{le-refl}
 use native.Mathlib.Omega.{arith}
 use lib.Dec.{leb}
-use lib.ListN.{length, getD, drop}
+use lib.ListN.{length, getD, take, drop}
 use borrow.Author.Tests.{eq-eqb, ne-eqb, lt-ltb, le-ltb}
 use Rattle.laws.proofs.Cases.{either}
 use Rattle.laws.proofs.Filled.{filled-at}
@@ -24,7 +24,7 @@ use Rattle.book.specs.State.{State, state, rowAt, columnsOf}
 use Rattle.rules.specs.Codes.{recallRules}
 use Rattle.records.specs.Writing.{areLegal}
 use Rattle.rules.specs.Marking.{oneNominal, recalled, substitutes, substituted, recallAccepted, recall}
-use Rattle.rules.specs.Outcome.{lowest, field}
+use Rattle.rules.specs.Outcome.{Rule, lowest, field}
 use Rattle.rules.specs.Sound.{sound}
 use Rattle.rules.specs.Stock.{participantSetUp, basketOf, positionOf, valueOf, pledge}
 use Rattle.totals.specs.Totals.{totalsOf}
@@ -34,12 +34,12 @@ use Rattle.bond_laws.proofs.Lots.{pick-pledgeable}
 use Rattle.facts.proofs.Facts.{Sound, sound-facts}
 use Rattle.facts.proofs.Keeps.{Good}
 use Rattle.facts.proofs.Rows.{used-exposure, head-facts}
+use Rattle.facts.proofs.Rules.{stops, goes-on}
 use Rattle.facts.proofs.Stock.{account-at, position-at, account-le, position-within, account-within}
 use Rattle.marking_laws.specs.Recalled.{added, accountAfter, positionLeft, Recallable}
 use Rattle.marking_laws.proofs.Marking.{named-recallable, accepted-recallable, one-returnable, kept-recalled, kept-substituted}
 use Rattle.marking_laws.proofs.Ranges.{RecallIn, recall-in}
 use Rattle.marking_laws.proofs.Recalls.{account-after, position-left, position-after, substitutes-on-arrays, value-after}
-use Rattle.marking_laws.proofs.Rules.{lowest-early, lowest-later}
 use Rattle.marking.specs.Marks.{Marking}
 use Rattle.marking.specs.Recalling.{Recalling, namesCode, holdsCode}
 use Rattle.marking.proofs.Moving.{gives-back, pledges}
@@ -165,33 +165,37 @@ abbrev lastCode : Bool → ℕ
 lastCode accepted = cond (not accepted) 16 0
 
 module _ (s : State) (r : List ℕ) {names : ℕ} (q : names ≡ namesCode s r) where
+  -- the rules after those of the names and the lots
+  abbrev others : List Rule
+  others = drop 3 (recallRules s r)
+
   pub code-names : (names ≡ 0 → ⊥) → names ≡ lowest (recallRules s r)
-  code-names n = q ∙ lowest-early 3 (recallRules s r) (rw q at n)
+  unfolding recallRules
+  code-names n = stops (take 3 (recallRules s r)) others q n
 
   module _ (z : names ≡ 0) where
-    names-passed : lowest (drop 3 (recallRules s r)) ≡ lowest (recallRules s r)
+    after-names : {x : ℕ} → x ≡ lowest others → x ≡ lowest (recallRules s r)
     unfolding recallRules
-    names-passed = lowest-later 3 (recallRules s r) tt (sym q ∙ z)
+    after-names h = goes-on (take 3 (recallRules s r)) others refl q z h
 
     module _ {holds : ℕ} (p : holds ≡ holdsCode s r) where
       pub code-holds : (holds ≡ 0 → ⊥) → holds ≡ lowest (recallRules s r)
-      code-holds n = p ∙ lowest-early 2 (drop 3 (recallRules s r)) (rw p at n) ∙ names-passed
+      unfolding recallRules
+      code-holds n = after-names (stops (take 2 others) (drop 2 others) p n)
 
       module _ (y : holds ≡ 0) where
         pub all-passed : Recallable s r
         all-passed = named-recallable s r (sym q ∙ z) (sym p ∙ y)
 
-        holds-passed : lowest (drop 2 (drop 3 (recallRules s r))) ≡ lowest (recallRules s r)
+        last-code : {b : Bool} → b ≡ recallAccepted s r → lastCode b ≡ lowest (recallRules s r)
         unfolding recallRules
-        holds-passed = lowest-later 2 (drop 3 (recallRules s r)) tt (sym p ∙ y) ∙ names-passed
+        last-code a = after-names (goes-on (take 2 others) (drop 2 others) refl p y (ap lastCode a))
 
         pub code-none : {b : Bool} → b ≡ recallAccepted s r → b ≡ true → 0 ≡ lowest (recallRules s r)
-        unfolding recallRules
-        code-none a t = ap lastCode (sym t ∙ a) ∙ holds-passed
+        code-none a t = last-code (sym t ∙ a)
 
         pub code-refused : {b : Bool} → b ≡ recallAccepted s r → b ≡ false → 16 ≡ lowest (recallRules s r)
-        unfolding recallRules
-        code-refused a f = ap lastCode (sym f ∙ a) ∙ holds-passed
+        code-refused a f = last-code (sym f ∙ a)
 
 -- a record that every rule lets pass
 pub accepted-recalling : (book fields : List ℕ) → length book ≡ bookLength → areLegal 11 fields ≡ true → sound (state book) ≡ true → lowest (recallRules (state book) fields) ≡ 0 → Recalling book fields

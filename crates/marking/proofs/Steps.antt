@@ -15,12 +15,12 @@ use Rattle.book.specs.Layout.{today, useds, exposures, positions}
 use Rattle.book.specs.State.{State, state, columnsOf}
 use Rattle.rules.specs.Marking.{moved, ineligibleOf, ineligibleBack, excessBack, shortfallIn}
 use Rattle.rules.specs.Stock.{basketOf, positionOf, valueOf, eligibleFor, freeFor, pickFor, pledge, giveBack}
+use Rattle.facts.proofs.Filled.{filled-same}
 use Rattle.facts.proofs.Stock.{position-at}
 use Rattle.bond_laws.proofs.Lots.{pick-pledgeable, free-returnable}
 use Rattle.bonds.specs.Moves.{Pledging, GivingBack}
 use Rattle.marking_laws.proofs.Marking.{ineligible-returnable}
 use Rattle.marking_laws.proofs.Moved.{moved-none}
-use Rattle.marking_laws.proofs.Recalls.{filled-same}
 use Rattle.marking.specs.Marks.{Marking, Stepped, bit, ineligibleIn}
 use Rattle.marking.proofs.Moving.{gives-back, pledges}
 use Rattle.marking.proofs.Ways.{facts-of}

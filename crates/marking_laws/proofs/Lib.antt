@@ -3,4 +3,3 @@ pub mod Moved
 pub mod Passes
 pub mod Ranges
 pub mod Recalls
-pub mod Rules

@@ -1,7 +1,7 @@
 -- A mark and an accepted recall leave a good book, each participant's bonds and the exposures' amounts.
 -- Assumes nothing.
 use mathlib.Core.Path.{_≡_, refl, sym, _∙_}
-use mathlib.Core.Bool.{true, not, cond}
+use mathlib.Core.Bool.{true, cond}
 use mathlib.Core.List.{List, [], _∷_}
 use mathlib.Core.Logic.{inl, inr, ⊎-elim}
 use Prim.Native.Nat.{ℕ, _+_, _*_, _-_, _%_, _≤_, _<_}
@@ -25,6 +25,7 @@ use Rattle.rules.specs.Stock.{eligibleFor, securitySetUp, valueOf, freeFor, pic
 use Rattle.facts.proofs.Facts.{Sound}
 use Rattle.facts.proofs.Keeps.{Good, Keeps}
 use Rattle.facts.proofs.Rows.{position-facts}
+use Rattle.facts.proofs.Rules.{none-applies, none-early, goes-on}
 use Rattle.facts.proofs.Truth.{split}
 use Rattle.bond_laws.proofs.Keeping.{good-pledge, good-giveBack}
 use Rattle.bond_laws.proofs.Lots.{Pledgeable, Returnable, pledge-lowerable, giveBack-lowerable, position-lots, pick-pledgeable, free-returnable}
@@ -34,7 +35,6 @@ use Rattle.marking_laws.proofs.Moved.{Bonds, bonds-then, own-none, own-
 use Rattle.marking_laws.proofs.Passes.{Local, pass-keeps, pass-bonds}
 use Rattle.marking_laws.proofs.Ranges.{RecallIn, recall-in}
 use Rattle.marking_laws.proofs.Recalls.{one-same, one-other}
-use Rattle.marking_laws.proofs.Rules.{none-applies, none-early, lowest-later}
 
 -- a good state with the bonds of another
 pub record Kept (s t : State) : Type 0 where
@@ -159,8 +159,8 @@ module _ (s : State) (r : List ℕ) where
   pub named-recallable : lowest (take 3 (recallRules s r)) ≡ 0 → lowest (take 2 (drop 3 (recallRules s r))) ≡ 0 → Recallable s r
   unfolding recallRules
   named-recallable h g =
-      let names = none-applies (take 3 (recallRules s r)) tt h in
-      let holds = none-applies (take 2 (drop 3 (recallRules s r))) tt g in
+      let names = none-applies (take 3 (recallRules s r)) refl h in
+      let holds = none-applies (take 2 (drop 3 (recallRules s r))) refl g in
       let known : securitySetUp s (field r 2) ≡ true = not-false (securitySetUp s (field r 2)) (names .1 .1 .0) in
       record {
         used = eqb-true (s useds exposure) 1 (split (eqb (s useds exposure) 1 ∷ eqb (s exposureGivers exposure) (field r 0) ∷ []) (not-false _ (holds .0)) .0);
@@ -172,9 +172,10 @@ module _ (s : State) (r : List ℕ) where
   pub accepted-recallable : lowest (recallRules s r) ≡ 0 → Recallable s r
   unfolding recallRules
   accepted-recallable h =
-      let rules = recallRules s r in
-      let names = none-early 3 rules h in
-      named-recallable names (none-early 2 (drop 3 rules) (lowest-later 3 rules tt names ∙ h))
+      let first = take 3 (recallRules s r) in
+      let later = drop 3 (recallRules s r) in
+      let names = none-early first later h in
+      named-recallable names (none-early (take 2 later) (drop 2 later) (goes-on first later refl refl names refl ∙ h))
 
   module _ (h : Good s) (m : RecallIn r) (k : Recallable s r) where
     pub one-returnable : Returnable s exposure one

@@ -1,9 +1,9 @@
 -- A recall on arrays: the account and the position with the nominal moved are those of the state with it given back, so that one Pick
 -- on them finds the substitutes, and their sum the new value.
 -- Assumes nothing.
-use mathlib.Core.Path.{_≡_, refl, sym, ap, _∙_}
+use mathlib.Core.Path.{_≡_, sym, ap, _∙_}
 use mathlib.Core.List.{List}
-use Prim.Native.Nat.{ℕ, zero, suc, _+_, _*_, _-_, _/_, _%_, _<_}
+use Prim.Native.Nat.{ℕ, _+_, _*_, _-_, _/_, _%_, _<_}
 use native.Mathlib.Nat.{le-refl, add-zero}
 use native.Mathlib.Decide.{ℕ-discrete}
 use native.Mathlib.Omega.{arith}
@@ -17,18 +17,13 @@ use Rattle.securities.specs.Position.{worth, nominalsOf}
 use Rattle.book.specs.Layout.{today, lots, exposureGivers, exposures, accounts, positions}
 use Rattle.book.specs.State.{State, columnsOf}
 use Rattle.bond_laws.proofs.Moving.{pledge-position, giveBack-account, giveBack-position}
+use Rattle.facts.proofs.Filled.{filled-same}
 use Rattle.facts.proofs.Stock.{account-at, position-at}
 use Rattle.rules.specs.Marking.{oneNominal, recalled, substitutes, substituted}
 use Rattle.rules.specs.Outcome.{field}
 use Rattle.rules.specs.Stock.{accountOf, positionOf, basketOf, valueOf, pledge}
 use Rattle.marking_laws.specs.Recalled.{added, accountAfter, positionLeft}
 use Rattle.marking_laws.proofs.Moved.{Bonds, own-pledge, own-giveBack}
-
--- lists filled by rules that agree
-pub filled-same : (f g : ℕ → ℕ) (n k : ℕ) → ((i : ℕ) → i < k → f i ≡ g i) → filled f n k ≡ filled g n k
-unfolding filled
-filled-same f g n zero h = refl
-filled-same f g n (suc k) h = rw (filled-same f g n k (λ i l. h i (omega arith)), h k (omega arith))
 
 -- the securities are read from other tables than the bonds
 pub columns-kept : {s t : State} → Bonds s t → columnsOf t ≡ columnsOf s

@@ -1,19 +1,14 @@
 -- The whole answer of each read: by a damaged book, by the rules, and accepted; and what an accepted read says of its arguments.
 -- Assumes nothing.
-use mathlib.Core.Path.{_≡_, refl, sym, ap, _∙_}
-use mathlib.Core.Bool.{Bool, true, false, not, _&&_, _||_, cond, or-true}
+use mathlib.Core.Path.{_≡_, refl, sym, _∙_}
+use mathlib.Core.Bool.{_&&_, or-true}
 use mathlib.Core.List.{List, [], _∷_}
-use mathlib.Core.Logic.{⊎-elim}
-use Prim.Native.Nat.{ℕ, zero, suc, _+_, _*_, _≤_, _<_}
+use Prim.Native.Nat.{ℕ, _+_, _*_, _<_}
 use native.Mathlib.Decide.{decLt}
 use native.Mathlib.Omega.{arith}
-use lib.Dec.{eqb, leb}
-use lib.ListN.{length, replicate, getD}
-use borrow.Author.Tests.{eq-eqb, ne-eqb, le-leb, lt-leb}
+use lib.Dec.{eqb}
+use borrow.Author.Tests.{ne-eqb, le-leb, lt-leb}
 use Rattle.laws.specs.Filled.{filled}
-use Rattle.laws.specs.Search.{least, count}
-use Rattle.laws.proofs.Cases.{either}
-use Rattle.laws.proofs.Least.{least-none, least-hit, least-miss}
 use Rattle.baskets.specs.Report.{report}
 use Rattle.baskets.specs.declared.Report as declared
 use Rattle.book.specs.Layout.{numbers, maps, ages, accounts, positions, exposureGivers, exposureTakers, exposureBaskets, exposureClosings, exposures}
@@ -21,6 +16,7 @@ use Rattle.book.specs.State.{State, state}
 use Rattle.rules.specs.Outcome.{lowest}
 use Rattle.rules.specs.Reads.{account, position, exposure, request, basket, rowOf, readRules, readAnswer}
 use Rattle.rules.specs.Requests.{isUsed}
+use Rattle.facts.proofs.Searches.{least-le}
 use Rattle.reads.specs.Entries.{bookCode, requestNumber}
 use Rattle.reads.proofs.Ways.{book-refused, read-refused, read-accepted}
 
@@ -95,14 +91,8 @@ module _ (b : List ℕ) {x : ℕ} (e : x ≡ bookCode b) (z : x ≡ 0) {c : ℕ}
       rw (f3, ne-eqb m 0 some, f2, f1) (read-accepted b (basket y) e z g o)
 
 -- a request: its row decides
-least-most : (t : ℕ → Bool) (n i : ℕ) → least t n i ≤ i + n
-least-most t zero i = omega (arith, least-none t i)
-least-most t (suc n) i =
-    let later = least-most t n (suc i) in
-    ⊎-elim (λ p. omega (arith, least-hit t n i p)) (λ p. omega (arith, least-miss t n i p, later)) (either (t i))
-
 pub row-near : (s : State) (n : ℕ) {i : ℕ} → i ≡ rowOf s n → (i ≡ 256 → ⊥) → i < 256
-row-near s n e m = omega (arith, least-most (λ i. isUsed s i && eqb (s numbers i) n) 256 0)
+row-near s n e m = omega (arith, least-le (λ i. isUsed s i && eqb (s numbers i) n) 256 0)
 
 module _ (b : List ℕ) (n : ℕ) {x i : ℕ} (e : x ≡ bookCode b) (z : x ≡ 0) (f : i ≡ rowOf (state b) n) where
   pub request-refused : i ≡ 256 → 5 ∷ 0 ∷ 0 ∷ 0 ∷ 0 ∷ 0 ∷ 0 ∷ 0 ∷ 0 ∷ 0 ∷ 0 ∷ 0 ∷ 0 ∷ 0 ∷ 0 ∷ [] ≡ readAnswer b (request n)

@@ -4,19 +4,16 @@ use mathlib.Core.Path.{_≡_, refl}
 use mathlib.Core.Bool.{Bool, true, false, not, _&&_, _||_}
 use mathlib.Core.List.{List, [], _∷_}
 use mathlib.Core.Logic.{⊎-elim}
-use Prim.Native.Nat.{ℕ, _+_, _≤_, _<_}
+use Prim.Native.Nat.{ℕ, _+_, _≤_}
 use native.Mathlib.Omega.{arith}
 use lib.Dec.{eqb, leb, ltb}
-use lib.ListN.{getD}
 use borrow.Author.Tests.{eqb-true, eqb-false, ltb-false, not-false}
 use Rattle.laws.specs.Search.{count}
 use Rattle.laws.proofs.Cases.{either, or-left, or-right}
-use Rattle.laws.proofs.Least.{all-at}
 use Rattle.calendar.specs.Target.{openDay}
 use Rattle.book.specs.Layout.{tolerance, nextNumber, numbers, useds, exposureGivers, exposureTakers}
 use Rattle.book.specs.State.{State}
-use Rattle.records.proofs.Ranges.{legalAt}
-use Rattle.records.specs.Kinds.{kinds, fieldOf}
+use Rattle.records.specs.Kinds.{kinds}
 use Rattle.records.specs.Writing.{areLegal}
 use Rattle.rules.specs.Codes.{fopRules, returnRules}
 use Rattle.rules.specs.Outcome.{lowest}
@@ -24,16 +21,13 @@ use Rattle.rules.specs.Requests.{freeExposure}
 use Rattle.rules.specs.Requesting.{giverIn, takerIn, objectIn, amountIn, settlementIn, closingIn, rowsNeeded, needsExposure}
 use Rattle.rules.specs.Sound.{openOrNone}
 use Rattle.rules.specs.Stock.{participantSetUp, basketSetUp}
+use Rattle.facts.proofs.Ranges.{field-in}
 use Rattle.facts.proofs.Rows.{Parties}
-use Rattle.facts.proofs.Truth.{split, Between, between-facts}
+use Rattle.facts.proofs.Rules.{none-applies}
+use Rattle.facts.proofs.Truth.{split}
 use Rattle.request_laws.proofs.Entries.{FopIn, ReturnIn, fopIn, returnIn, RequestIn}
-use Rattle.request_laws.proofs.Rules.{none-applies}
 use Rattle.request_laws.proofs.Touching.{Small}
 use Rattle.request_laws.proofs.Ways.{Room}
-
--- a number of a record is in the range of its field
-pub field-in : (k j : ℕ) (r : List ℕ) → areLegal k r ≡ true → j < 8 → Between (fieldOf k j .least) (fieldOf k j .greatest) (getD r j 0)
-field-in k j r h l = between-facts (fieldOf k j .least) (fieldOf k j .greatest) (getD r j 0) (all-at (legalAt k r) 8 0 h j (omega arith) (omega arith))
 
 module _ (r : List ℕ) where
   pub fop-small : areLegal 6 r ≡ true → Small 6 r

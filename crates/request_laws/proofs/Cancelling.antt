@@ -21,10 +21,10 @@ use Rattle.rules.specs.Requesting.{ownRequest, pairEnds, cancelled}
 use Rattle.rules.specs.Sound.{soundRow}
 use Rattle.facts.proofs.Keeps.{Good, Keeps}
 use Rattle.facts.proofs.Rows.{Pair, head-facts, used-fields, unused-blank}
+use Rattle.facts.proofs.Rules.{none-applies}
 use Rattle.request_laws.proofs.Covering.{Covers, isLeft, isExposureTable, tables-differ, distinct-facts, distinct-same}
 use Rattle.request_laws.proofs.Finding.{own-used}
 use Rattle.request_laws.proofs.Keeping.{rows-keep}
-use Rattle.request_laws.proofs.Rules.{none-applies}
 use Rattle.request_laws.proofs.Staying.{SameRow, isFixed, marked-row, blank-row, pair-of, partner-paired}
 
 -- the two marks of a request

@@ -17,8 +17,9 @@ use Rattle.rules.specs.Outcome.{lowest, given}
 use Rattle.rules.specs.Requests.{hasKey, freeExposure}
 use Rattle.rules.specs.Requesting.{giverIn, takerIn, objectIn, closingIn, pairsNow, exposureOf, needsExposure, exposureGiven, rowsEntered, pairedWith, entered}
 use Rattle.facts.proofs.Keeps.{Good, Keeps}
+use Rattle.facts.proofs.Searches.{least-le}
 use Rattle.request_laws.proofs.Accepting.{fop-small, return-small, fop-names, fop-request, fop-room, fop-exposure, return-request, return-room}
-use Rattle.request_laws.proofs.Finding.{free-exposure, least-le}
+use Rattle.request_laws.proofs.Finding.{free-exposure}
 use Rattle.request_laws.proofs.Giving.{given-keeps, given-found, given-request}
 use Rattle.request_laws.proofs.Keeping.{leaving, keeps-then}
 use Rattle.request_laws.proofs.Order.{given-first}

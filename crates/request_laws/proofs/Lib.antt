@@ -7,7 +7,6 @@ pub mod Finding
 pub mod Giving
 pub mod Keeping
 pub mod Order
-pub mod Rules
 pub mod Staying
 pub mod Touching
 pub mod Ways

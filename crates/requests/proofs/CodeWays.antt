@@ -16,8 +16,8 @@ use Rattle.rules.specs.Codes.{fopRules, returnRules, cancelRules}
 use Rattle.rules.specs.Outcome.{Rule, rule, lowest}
 use Rattle.rules.specs.Requests.{acceptsGiver, exposureWith, freeExposure}
 use Rattle.rules.specs.Requesting.{takerFollows, rowsNeeded, earliestEqual, pairsNow, ownRequest}
+use Rattle.facts.proofs.Rules.{stops, goes-on}
 use Rattle.requests.specs.Rules.{partyRules, basketRules, settlementRules, closingRules, takerRules, rowRules, exposureRules, fopNameRules, namesExposure}
-use Rattle.requests.proofs.Groups.{stops, goes-on}
 
 -- 5: the parties
 module _ (s : State) (r : List ℕ) {x : ℕ} (xq : x ≡ s modes (getD r 1 0)) where

@@ -1,5 +1,4 @@
 pub mod CodeWays
-pub mod Groups
 pub mod Legal
 pub mod Rooms
 pub mod Searches

@@ -13,6 +13,8 @@ use Rattle.book.specs.Layout.{nextNumber, numbers, partners, useds}
 use Rattle.book.specs.State.{State, put}
 use Rattle.facts.proofs.Facts.{sound-facts}
 use Rattle.facts.proofs.Rows.{used-fields, used-paired}
+use Rattle.facts.proofs.Rules.{no-rule}
+use Rattle.facts.proofs.Searches.{least-le, least-holds, count-finds, count-but-one}
 use Rattle.facts.proofs.Truth.{split}
 use Rattle.rules.specs.Codes.{fopRules, returnRules, cancelRules, tooFewRows}
 use Rattle.rules.specs.Outcome.{lowest}
@@ -22,8 +24,6 @@ use Rattle.rules.specs.Sound.{sound}
 use Rattle.requests.specs.Ranges.{RoomForOne, RoomForTwo, Room, PairIn}
 use Rattle.requests.specs.Rules.{openOrWhole, isOwnRequest}
 use Rattle.requests.proofs.CodeWays.{rowsFree}
-use Rattle.requests.proofs.Groups.{no-rule}
-use Rattle.requests.proofs.Searches.{least-le, least-holds, count-some, count-but-one}
 
 -- a row that is free, by its number
 abbrev isFree : State → ℕ → Bool
@@ -31,13 +31,13 @@ isFree s i = eqb (s numbers i) 0
 
 module _ (s : State) where
   first-row : 1 ≤ rowsFree s → freeRow s < 256
-  first-row h = count-some (isFree s) 256 0 h
+  first-row h = count-finds (isFree s) 256 0 h
 
   -- a number in one row leaves all free rows but that one
   second-row : (i n : ℕ) → 2 ≤ rowsFree s → freeRow (put s numbers i n) < 256
   second-row i n h =
       let others = count-but-one (isFree s) (isFree (put s numbers i n)) i (λ j d. rw (ne-eqb j i d)) 256 0 in
-      count-some (isFree (put s numbers i n)) 256 0 (omega arith)
+      count-finds (isFree (put s numbers i n)) 256 0 (omega arith)
 
   -- 14 does not apply: rows and numbers are there
   module _ (r : List ℕ) (h : tooFewRows s r .applies ≡ false) where

@@ -1,49 +1,18 @@
 -- What a search found passes its test: the pair that settles next, and the exposure that a FOP belongs to.
 -- Assumes nothing.
-use mathlib.Core.Path.{_≡_, refl}
-use mathlib.Core.Bool.{Bool, true, false, not, _&&_, _||_}
+use mathlib.Core.Path.{_≡_}
+use mathlib.Core.Bool.{true, false, not, _&&_}
 use mathlib.Core.List.{[], _∷_}
-use mathlib.Core.Logic.{⊎-elim}
-use Prim.Native.Nat.{ℕ, zero, suc, _+_, _≤_, _<_}
-use native.Mathlib.Omega.{arith}
+use Prim.Native.Nat.{ℕ, _≤_, _<_}
 use lib.Dec.{eqb, leb, ltb}
 use borrow.Author.Tests.{eqb-true, leb-true, ltb-true, not-true}
-use Rattle.laws.specs.Search.{least, leastBy}
-use Rattle.laws.proofs.Cases.{either, and-left}
-use Rattle.laws.proofs.Least.{least-hit, least-miss, least-none}
+use Rattle.laws.proofs.Cases.{and-left}
 use Rattle.book.specs.Layout.{today, numbers, kinds, givers, takers, objects, settlements, closings, ends, useds, exposureGivers, exposureTakers, exposureBaskets, exposureClosings}
 use Rattle.book.specs.State.{State}
+use Rattle.facts.proofs.Searches.{least-holds, found-by}
 use Rattle.facts.proofs.Truth.{split}
 use Rattle.rules.specs.Requests.{isUsed, isWhole, isLive, isPaired, partnerOf, hasKey, exposureOfFop}
 use Rattle.rules.specs.Settlement.{orderOf, isDue, nextDue}
-
--- the least number at which a test holds passes it, where there is one
-pub least-holds : (t : ℕ → Bool) (n i : ℕ) → least t n i < i + n → t (least t n i) ≡ true
-least-holds t zero i h = absurd (omega (arith, least-none t i))
-least-holds t (suc n) i h =
-    let later = least-holds t n (suc i) in
-    ⊎-elim
-    (λ e. rw (least-hit t n i e) e)
-    (λ e. rw (least-miss t n i e) (later (omega (arith, least-miss t n i e))))
-    (either (t i))
-
--- so does the one with the least key
-module _ (t : ℕ → Bool) (key : ℕ → ℕ) (none : ℕ) where
-  pub record Found (n k : ℕ) : Type 0 where
-    pub below : k < n
-    pub passes : t k ≡ true
-
-  pub found-by : (n : ℕ) → (leastBy t key none n ≡ none → ⊥) → Found n (leastBy t key none n)
-  unfolding leastBy
-  found-by zero h = absurd (h refl)
-  found-by (suc n) h =
-      let before = leastBy t key none n in
-      let better = eqb before none || ltb (key n) (key before) in
-      let earlier = found-by n in
-      ⊎-elim
-      (λ e. rw e (record { below = omega arith; passes = and-left (t n) better e }))
-      (λ e. let f = earlier (λ z. h (rw e z)) in rw e (record { below = omega (arith, f .below); passes = f .passes }))
-      (either (t n && better))
 
 -- the later row of a live pair that is due
 pub record Due (s : State) (kind last i : ℕ) : Type 0 where

@@ -1,7 +1,7 @@
 -- What a whole settlement keeps: by induction over the pairs that settle.
 -- Assumes nothing.
 use mathlib.Core.Path.{_≡_, refl, sym, _∙_}
-use mathlib.Core.List.{List, [], _∷_, _++_}
+use mathlib.Core.List.{[]}
 use mathlib.Core.Logic.{⊎-elim}
 use Prim.Native.Nat.{ℕ, zero, suc, _+_, _-_, _≤_, _<_}
 use native.Mathlib.Decide.{ℕ-discrete}
@@ -11,24 +11,14 @@ use borrow.Author.Tests.{eq-eqb, ne-eqb, eqb-false}
 use Rattle.laws.proofs.Cases.{either}
 use Rattle.book.specs.Layout.{kinds, objects, useds, exposures}
 use Rattle.book.specs.State.{State}
-use Rattle.facts.proofs.Sums.{Sums, noted, allNoted}
-use Rattle.rules.specs.Outcome.{Event, settled, returned}
+use Rattle.facts.proofs.Sums.{Sums, noted, allNoted, noted-one}
+use Rattle.rules.specs.Outcome.{settled, returned}
 use Rattle.rules.specs.Requests.{exposureOfFop}
 use Rattle.rules.specs.Settlement.{Settling, orderOf, nextDue, returnAmount, returnSettled, settleReturn, fopAmount, fopSettled, settleFop, settleAll, allSettled, settlement}
 use Rattle.rules.specs.Sound.{holding}
 use Rattle.facts.proofs.Keeps.{Good, Amounts, Keeps}
 use Rattle.settlement_laws.proofs.Finding.{Due, due-row}
 use Rattle.settlement_laws.proofs.Settling.{return-good, return-bonds, return-within, return-exposure, return-other, return-used, fop-good, fop-bonds, fop-exposure, fop-other, fop-used}
-
--- events noted one list after the other
-pub noted-append : (p : Sums) (a b : List Event) → allNoted p (a ++ b) ≡ allNoted (allNoted p a) b
-unfolding allNoted
-noted-append p [] b = refl
-noted-append p (e ∷ a) b = noted-append (noted p e) a b
-
-pub noted-one : (p : Sums) (a : List Event) (e : Event) → allNoted p (a ++ (e ∷ [])) ≡ noted (allNoted p a) e
-unfolding allNoted
-noted-one p a e = noted-append p a (e ∷ [])
 
 -- the paper follows the exposure that changes
 module _ (s t : State) (e x : ℕ) (used : (d : ℕ) → t useds d ≡ s useds d) (other : (d : ℕ) → (d ≡ e → ⊥) → t exposures d ≡ s exposures d) (p : Sums) (a : Amounts s p) where

@@ -5,24 +5,13 @@ use mathlib.Core.Bool.{true}
 use mathlib.Core.List.{List}
 use Prim.Native.Nat.{ℕ, _≤_, _<_}
 use native.Mathlib.Omega.{arith}
-use lib.Dec.{leb}
 use lib.ListN.{length, getD}
-use borrow.Author.Tests.{leb-true}
-use Rattle.laws.proofs.Cases.{and-right}
-use Rattle.laws.proofs.Least.{all-at}
 use Rattle.book.specs.Layout.{bookLength, accounts, positions}
 use Rattle.book.specs.State.{state}
 use Rattle.book.proofs.Images.{state-fits}
-use Rattle.records.proofs.Ranges.{legalAt}
-use Rattle.records.specs.Kinds.{kinds, fieldOf}
+use Rattle.records.specs.Kinds.{kinds}
 use Rattle.records.specs.Writing.{areLegal}
-
--- a number of a record is at most the greatest of its field
-pub field-le : (k j : ℕ) (r : List ℕ) → areLegal k r ≡ true → j < 8 → getD r j 0 ≤ fieldOf k j .greatest
-field-le k j r h l =
-    leb-true (getD r j 0) (fieldOf k j .greatest)
-    (and-right (leb (fieldOf k j .least) (getD r j 0)) (leb (getD r j 0) (fieldOf k j .greatest))
-    (all-at (legalAt k r) 8 0 h j (omega arith) (omega arith)))
+use Rattle.facts.proofs.Ranges.{field-in}
 
 -- the fields of each kind
 pub record OpeningIn (r : List ℕ) : Type 0 where
@@ -55,40 +44,40 @@ pub record AccountIn (r : List ℕ) : Type 0 where
 module _ (r : List ℕ) where
   pub opening-in : areLegal 0 r ≡ true → OpeningIn r
   unfolding kinds
-  opening-in h = record { day = field-le 0 0 r h (omega arith); tolerance = field-le 0 1 r h (omega arith) }
+  opening-in h = record { day = field-in 0 0 r h (omega arith) .1; tolerance = field-in 0 1 r h (omega arith) .1 }
 
   pub price-in : areLegal 1 r ≡ true → PriceIn r
   unfolding kinds
   price-in h =
       record {
-        security = field-le 1 0 r h (omega arith);
-        lot = field-le 1 1 r h (omega arith);
-        price = field-le 1 2 r h (omega arith);
-        haircut = field-le 1 3 r h (omega arith);
-        quote = field-le 1 4 r h (omega arith);
+        security = field-in 1 0 r h (omega arith) .1;
+        lot = field-in 1 1 r h (omega arith) .1;
+        price = field-in 1 2 r h (omega arith) .1;
+        haircut = field-in 1 3 r h (omega arith) .1;
+        quote = field-in 1 4 r h (omega arith) .1;
       }
 
   pub participant-in : areLegal 2 r ≡ true → ParticipantIn r
   unfolding kinds
   participant-in h =
       record {
-        participant = field-le 2 0 r h (omega arith);
-        mode = field-le 2 1 r h (omega arith);
-        givers = field-le 2 2 r h (omega arith);
-        partial = field-le 2 3 r h (omega arith);
+        participant = field-in 2 0 r h (omega arith) .1;
+        mode = field-in 2 1 r h (omega arith) .1;
+        givers = field-in 2 2 r h (omega arith) .1;
+        partial = field-in 2 3 r h (omega arith) .1;
       }
 
   pub basket-in : areLegal 3 r ≡ true → BasketIn r
   unfolding kinds
-  basket-in h = record { basket = field-le 3 0 r h (omega arith); securities = field-le 3 1 r h (omega arith); age = field-le 3 2 r h (omega arith) }
+  basket-in h = record { basket = field-in 3 0 r h (omega arith) .1; securities = field-in 3 1 r h (omega arith) .1; age = field-in 3 2 r h (omega arith) .1 }
 
   pub deposit-in : areLegal 4 r ≡ true → AccountIn r
   unfolding kinds
-  deposit-in h = record { participant = field-le 4 0 r h (omega arith); security = field-le 4 1 r h (omega arith); nominal = field-le 4 2 r h (omega arith) }
+  deposit-in h = record { participant = field-in 4 0 r h (omega arith) .1; security = field-in 4 1 r h (omega arith) .1; nominal = field-in 4 2 r h (omega arith) .1 }
 
   pub withdrawal-in : areLegal 5 r ≡ true → AccountIn r
   unfolding kinds
-  withdrawal-in h = record { participant = field-le 5 0 r h (omega arith); security = field-le 5 1 r h (omega arith); nominal = field-le 5 2 r h (omega arith) }
+  withdrawal-in h = record { participant = field-in 5 0 r h (omega arith) .1; security = field-in 5 1 r h (omega arith) .1; nominal = field-in 5 2 r h (omega arith) .1 }
 
 -- a number of an account or a position fits its four bytes
 module _ (b : List ℕ) (long : length b ≡ bookLength) (small : (i : ℕ) → getD b i 0 < 256) where

@@ -28,10 +28,11 @@ use Rattle.rules.specs.SetUp.{emptyState, opened, priced, enrolled, basketMade,
 use Rattle.rules.specs.Sound.{between, soundSecurity, soundProfile, soundParticipant, soundBasket, soundPosition, holding}
 use Rattle.rules.specs.Stock.{participantSetUp, securitySetUp}
 use Rattle.facts.proofs.Keeps.{Good, Keeps, Amounts}
+use Rattle.facts.proofs.Ranges.{field-in}
 use Rattle.facts.proofs.Rows.{position-facts, position-none, position-stocked}
+use Rattle.facts.proofs.Rules.{none-applies}
 use Rattle.facts.proofs.Stock.{account-le}
 use Rattle.facts.proofs.Truth.{split, join, facts-between}
-use Rattle.setup_laws.proofs.Legal.{field-in, passed}
 use Rattle.setup_laws.proofs.More.{More, row-more, exposure-more}
 
 -- 0: the empty book
@@ -41,7 +42,7 @@ empty-fits = record { fits = λ f i h. one-le-pow (widthOf f) 256 (omega arith);
 module _ (r : List ℕ) (legal : areLegal 0 r ≡ true) (accepted : lowest (openingRules r) ≡ 0) where
   open-day : openDay (field r 0) ≡ true
   unfolding openingRules
-  open-day = not-false (openDay (field r 0)) (passed (openingRules r) refl accepted .0)
+  open-day = not-false (openDay (field r 0)) (none-applies (openingRules r) refl accepted .0)
 
   pub opening-holds : (p i : ℕ) → holding (opened r .state) p i ≡ 0
   unfolding opened holding sum
@@ -82,11 +83,11 @@ module _ (r : List ℕ) (legal : areLegal 0 r ≡ true) (accepted : lowest (open
 module _ (s : State) (r : List ℕ) (good : Good s) (legal : areLegal 1 r ≡ true) (accepted : lowest (priceRules s r) ≡ 0) where
   other-lot : (securitySetUp s (field r 0) && not (eqb (s lots (field r 0)) (field r 1))) ≡ false
   unfolding priceRules
-  other-lot = passed (priceRules s r) refl accepted .0
+  other-lot = none-applies (priceRules s r) refl accepted .0
 
   open-quote : openDay (field r 4) ≡ true
   unfolding priceRules
-  open-quote = not-false (openDay (field r 4)) (passed (priceRules s r) refl accepted .1 .0)
+  open-quote = not-false (openDay (field r 4)) (none-applies (priceRules s r) refl accepted .1 .0)
 
   lot-kept : (j : ℕ) → securitySetUp s j ≡ true → priced s r .state lots j ≡ s lots j
   unfolding priced
@@ -413,7 +414,7 @@ pub record Deposit (s : State) (r : List ℕ) : Type 0 where
 module _ (s : State) (r : List ℕ) (good : Good s) (legal : areLegal 4 r ≡ true) (accepted : lowest (depositRules s r) ≡ 0) where
   deposit-room : holding s (field r 0) (field r 1) + field r 2 ≤ 500000000
   unfolding depositRules
-  deposit-room = ltb-false 500000000 (holding s (field r 0) (field r 1) + field r 2) (passed (depositRules s r) refl accepted .1 .1 .0)
+  deposit-room = ltb-false 500000000 (holding s (field r 0) (field r 1) + field r 2) (none-applies (depositRules s r) refl accepted .1 .1 .0)
 
   deposit-bonds : (p i : ℕ) → p < 32 → i < 64 → holding (deposited s r .state) p i ≡ holding s p i + nominalAt r p i
   unfolding deposited kinds
@@ -452,7 +453,7 @@ pub record Withdrawal (s : State) (r : List ℕ) : Type 0 where
 module _ (s : State) (r : List ℕ) (good : Good s) (legal : areLegal 5 r ≡ true) (accepted : lowest (withdrawalRules s r) ≡ 0) where
   in-account : field r 2 ≤ s accounts (64 * field r 0 + field r 1)
   unfolding withdrawalRules
-  in-account = ltb-false (s accounts (64 * field r 0 + field r 1)) (field r 2) (passed (withdrawalRules s r) refl accepted .1 .1 .0)
+  in-account = ltb-false (s accounts (64 * field r 0 + field r 1)) (field r 2) (none-applies (withdrawalRules s r) refl accepted .1 .1 .0)
 
   withdrawal-bonds : (p i : ℕ) → p < 32 → i < 64 → holding (withdrawn s r .state) p i + nominalAt r p i ≡ holding s p i
   unfolding withdrawn kinds
