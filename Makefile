@@ -1,5 +1,5 @@
 # Two commands do all the set-up: `make run` and `make test`. `make bench` measures.
-LIBRARIES = calendar valuation baskets picking records
+LIBRARIES = calendar valuation baskets picking records reads engine
 
 .PHONY: run test bench libraries clean
 
@@ -18,7 +18,7 @@ libraries:
 
 # The proved functions beside plain Rust, in one run.
 bench: libraries
-	cargo run --release --offline --locked --quiet --manifest-path tests/Cargo.toml --bin bench
+	cargo run --release --offline --locked --quiet --manifest-path tests/Cargo.toml --features engine --bin bench
 
 clean:
 	rm -rf target tests/target build

@@ -92,6 +92,46 @@ static void records(void)
     printf("FOP cut short: code %" PRIu64 "\n", reading.code);
 }
 
+/* One record for the book: its bytes are written by the proved writer, then the book is called. */
+static void call(uint8_t book[YORDZEPA_BOOK], unsigned kind, const uint64_t fields[YORDZEPA_FIELDS])
+{
+    static const size_t lengths[YORDZEPA_KINDS] = {9, 16, 8, 11, 7, 7, 29, 25, 6, 1, 1, 8, 1};
+    uint8_t record[YORDZEPA_LONGEST_RECORD];
+    uint64_t answer[YORDZEPA_ANSWER];
+
+    if (records_write(kind, fields, record, lengths[kind]) != YORDZEPA_OK) {
+        printf("record of kind %u: a field is out of its range\n", kind);
+        return;
+    }
+    engine_call(book, YORDZEPA_BOOK, record, lengths[kind], answer);
+    printf("kind %u: code %" PRIu64 ", A %" PRIu64 ", B %" PRIu64 ", M %" PRIu64 "\n", kind, answer[0],
+           answer[1], answer[2], answer[3]);
+}
+
+static void the_book(void)
+{
+    static uint8_t book[YORDZEPA_BOOK];
+    uint64_t exposure[YORDZEPA_EXPOSURE_ANSWER];
+    uint64_t position[YORDZEPA_NOMINAL_ANSWER];
+
+    call(book, 9, (uint64_t[YORDZEPA_FIELDS]){0});                          /* no opening yet */
+    call(book, 0, (uint64_t[YORDZEPA_FIELDS]){1, 10000});                   /* opening on day 1 */
+    call(book, 1, (uint64_t[YORDZEPA_FIELDS]){0, 1000, 1000000, 500, 1});   /* price */
+    call(book, 2, (uint64_t[YORDZEPA_FIELDS]){1, 2, 0, 1});                 /* giver 1, by hand */
+    call(book, 2, (uint64_t[YORDZEPA_FIELDS]){2, 0, 0, 1});                 /* taker 2, automatic */
+    call(book, 3, (uint64_t[YORDZEPA_FIELDS]){0, 1, 5});                    /* basket */
+    call(book, 4, (uint64_t[YORDZEPA_FIELDS]){1, 0, 100000});               /* deposit */
+    call(book, 6, (uint64_t[YORDZEPA_FIELDS]){0, 1, 2, 0, 1000000, 1, 0, 7}); /* FOP, paired at once */
+    call(book, 9, (uint64_t[YORDZEPA_FIELDS]){0});                          /* settle */
+
+    reads_exposure(book, YORDZEPA_BOOK, 0, exposure);
+    printf("exposure 0: code %" PRIu64 ", giver %" PRIu64 ", taker %" PRIu64 ", amount %" PRIu64 "\n",
+           exposure[0], exposure[1], exposure[2], exposure[5]);
+    reads_position(book, YORDZEPA_BOOK, 0, 0, position);
+    printf("exposure 0 holds of security 0: code %" PRIu64 ", nominal %" PRIu64 "\n", position[0],
+           position[1]);
+}
+
 int main(void)
 {
     calendar();
@@ -99,5 +139,6 @@ int main(void)
     baskets();
     picking();
     records();
+    the_book();
     return 0;
 }

@@ -1,5 +1,5 @@
 //! Links the five proved libraries, which `rt staticlib NAME` writes to target/staticlib in the
-//! repository's root, the folder above this one.
+//! repository's root, the folder above this one. The features `reads` and `engine` add the book's.
 
 use std::env;
 use std::path::Path;
@@ -11,7 +11,14 @@ fn main() {
     let folder = Path::new(&manifest).join("../target/staticlib");
     println!("cargo:rerun-if-changed=build.rs");
     println!("cargo:rustc-link-search=native={}", folder.display());
-    for name in LIBRARIES {
+    let mut libraries = LIBRARIES.to_vec();
+    if env::var_os("CARGO_FEATURE_READS").is_some() {
+        libraries.push("reads");
+    }
+    if env::var_os("CARGO_FEATURE_ENGINE").is_some() {
+        libraries.push("engine");
+    }
+    for name in libraries {
         let file = folder.join(format!("lib{name}.a"));
         assert!(
             file.is_file(),

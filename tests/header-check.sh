@@ -8,7 +8,7 @@ export LC_ALL
 cd "$(dirname "$0")/.."
 
 CC=${CC:-cc}
-libraries="calendar valuation baskets picking records"
+libraries="calendar valuation baskets picking records reads engine"
 work=$(mktemp -d)
 trap 'rm -rf "$work"' EXIT
 

@@ -22,7 +22,7 @@ step() {
     fi
 }
 
-for library in calendar valuation baskets picking records; do
+for library in calendar valuation baskets picking records reads engine; do
     step "rt staticlib $library" rt staticlib "$library"
 done
 
@@ -35,8 +35,12 @@ run_host() {
 }
 step "run examples/host.c" run_host
 
+step "compile tests/stack.c" \
+    "$CC" -std=c11 -O1 -Wall -Wextra -Werror -Iinclude tests/stack.c target/staticlib/lib*.a -o "$work/stack"
+step "stack of a call" "$work/stack"
+
 for file in tests/tests/*.rs; do
     library=$(basename "$file" .rs)
     step "second program: $library" \
-        cargo test --release --offline --locked --quiet --manifest-path tests/Cargo.toml --test "$library"
+        cargo test --release --offline --locked --quiet --manifest-path tests/Cargo.toml --features engine --test "$library"
 done

@@ -1,13 +1,13 @@
 -- A recall's codes way by way, what its arrays count on, and when it is accepted.
 -- Assumes nothing.
 use mathlib.Core.Path.{_≡_, refl, sym, ap, _∙_}
-use mathlib.Core.Bool.{Bool, true, false, not, _&&_, _||_, cond, and-false}
+use mathlib.Core.Bool.{Bool, true, false, not, cond, and-false}
 use mathlib.Core.List.{List}
 use mathlib.Core.Logic.{⊎-elim}
 use Prim.Native.Nat.{ℕ, _+_, _*_, _-_, _%_, _≤_, _<_}
 use native.Mathlib.Nat.{le-refl}
 use native.Mathlib.Omega.{arith}
-use lib.Dec.{eqb, leb, ltb}
+use lib.Dec.{leb}
 use lib.ListN.{length, getD, drop}
 use borrow.Author.Tests.{eq-eqb, ne-eqb, lt-ltb, le-ltb}
 use Rattle.laws.proofs.Cases.{either}
@@ -17,11 +17,10 @@ use Rattle.baskets.specs.declared.Basket.{Basket}
 use Rattle.picking.specs.Pick.{picked, butNot}
 use Rattle.picking.specs.declared.Outcome.{Outcome}
 use Rattle.securities.specs.Position.{worth, nominalsOf, Within}
-use Rattle.securities.specs.Security.{AllInBounds, AllQuoted}
+use Rattle.securities.specs.Security.{AllInBounds}
 use Rattle.securities.proofs.Positions.{sum-worth-le}
-use Rattle.book.specs.Layout.{bookLength, today, tolerance, lots, modes, useds, exposureGivers, exposureBaskets, exposures, accounts, positions}
+use Rattle.book.specs.Layout.{bookLength, today, tolerance, lots, modes, useds, exposureGivers, exposures, accounts, positions}
 use Rattle.book.specs.State.{State, state, rowAt, columnsOf}
-use Rattle.book.proofs.Images.{state-fits}
 use Rattle.rules.specs.Codes.{recallRules}
 use Rattle.records.specs.Writing.{areLegal}
 use Rattle.rules.specs.Marking.{oneNominal, recalled, substitutes, substituted, recallAccepted, recall}
@@ -34,15 +33,17 @@ use Rattle.bonds.specs.Moves.{Pledging, GivingBack}
 use Rattle.bond_laws.proofs.Lots.{pick-pledgeable}
 use Rattle.facts.proofs.Facts.{Sound, sound-facts}
 use Rattle.facts.proofs.Keeps.{Good}
-use Rattle.facts.proofs.Rows.{Exposure, used-exposure, head-facts}
-use Rattle.facts.proofs.Stock.{columns-bounded, columns-quoted, today-le, age-le, account-at, position-at, account-le, position-within, account-within}
+use Rattle.facts.proofs.Rows.{used-exposure, head-facts}
+use Rattle.facts.proofs.Stock.{account-at, position-at, account-le, position-within, account-within}
 use Rattle.marking_laws.specs.Recalled.{added, accountAfter, positionLeft, Recallable}
 use Rattle.marking_laws.proofs.Marking.{named-recallable, accepted-recallable, one-returnable, kept-recalled, kept-substituted}
 use Rattle.marking_laws.proofs.Ranges.{RecallIn, recall-in}
 use Rattle.marking_laws.proofs.Recalls.{account-after, position-left, position-after, substitutes-on-arrays, value-after}
 use Rattle.marking_laws.proofs.Rules.{lowest-early, lowest-later}
+use Rattle.marking.specs.Marks.{Marking}
 use Rattle.marking.specs.Recalling.{Recalling, namesCode, holdsCode}
 use Rattle.marking.proofs.Moving.{gives-back, pledges}
+use Rattle.marking.proofs.Passing.{good-of}
 
 -- the names and the lots
 module _ (s : State) (r : List ℕ) {lot : ℕ} (q : lot ≡ s lots (field r 2)) where
@@ -94,76 +95,62 @@ module _ {book fields : List ℕ} (k : Recalling book fields) where
   pub ranges-of : RecallIn fields
   ranges-of = recall-in fields (k .legal)
 
-  exposure-of : Exposure (state book) (field fields 1)
-  exposure-of = used-exposure (state book) (field fields 1) (facts-of .exposure (field fields 1) (omega (arith, ranges-of .exposure))) (k .recallable .used)
+  pub exposure-in : field fields 1 < 64
+  exposure-in = omega (arith, ranges-of .exposure)
 
-  pub basket-in : state book exposureBaskets (field fields 1) < 16
-  basket-in = exposure-of .basket-below
+  pub security-in : field fields 2 < 64
+  security-in = omega (arith, ranges-of .security)
+
+  pub marking-of : {columns : List ℕ} → columns ≡ columnsOf (state book) → Marking book columns
+  marking-of c = record { long = k .long; sound-book = k .sound-book; securities = c }
 
   pub giver-in : {g : ℕ} → g ≡ state book exposureGivers (field fields 1) → g < 32
-  giver-in q = rw q (exposure-of .parties .giver-below)
+  giver-in q = rw q (used-exposure (state book) (field fields 1) (facts-of .exposure (field fields 1) exposure-in) (k .recallable .used) .parties .giver-below)
 
   -- the numbers that are raised and lowered
   pub account-small : {g : ℕ} {row : List ℕ} → g ≡ state book exposureGivers (field fields 1) → row ≡ rowAt (state book) accounts (64 * g) → getD row (field fields 2) 0 ≤ 500000000
   account-small {g} q p =
-      let l : field fields 2 < 64 = omega (arith, ranges-of .security) in
-      rw (p, account-at (state book) g (field fields 2) l) (account-le (state book) facts-of g (field fields 2) (giver-in q) l)
+      rw (p, account-at (state book) g (field fields 2) security-in) (account-le (state book) facts-of g (field fields 2) (giver-in q) security-in)
 
   pub position-enough : {row : List ℕ} → row ≡ positionOf (state book) (field fields 1) → field fields 3 ≤ getD row (field fields 2) 0
-  position-enough p = rw (p, position-at (state book) (field fields 1) (field fields 2) (omega (arith, ranges-of .security))) (k .recallable .holds)
+  position-enough p = rw (p, position-at (state book) (field fields 1) (field fields 2) security-in) (k .recallable .holds)
 
   pub tolerance-in : {t : ℕ} → t ≡ state book tolerance 0 → t ≤ 100000000
   tolerance-in q = rw q (head-facts (state book) (facts-of .head) .tolerance-high)
-
-  pub old-within : {row : List ℕ} → row ≡ positionOf (state book) (field fields 1) → Within (nominalsOf row)
-  old-within p = rw p (position-within (state book) facts-of (field fields 1) (omega (arith, ranges-of .exposure)))
-
-  module _ {columns : List ℕ} (c : columns ≡ columnsOf (state book)) where
-    pub bounded-in : AllInBounds columns
-    bounded-in = rw c (columns-bounded (state book) facts-of)
-
-    pub quoted-in : AllQuoted columns
-    quoted-in = rw c (columns-quoted (state book) facts-of)
-
-  pub today-in : {t : ℕ} → t ≡ state book today 0 → t ≤ 146096
-  today-in q = rw q (today-le (state book) facts-of)
-
-  pub oldest-in : {b : Basket} → b ≡ basketOf (state book) (field fields 1) → b .oldest ≤ 255
-  oldest-in q = rw q (age-le (state book) facts-of (state book exposureBaskets (field fields 1)) basket-in)
 
   -- what the code finds is what the definition gives
   pub substitutes-found : {columns account left : List ℕ} {b : Basket} {day v x n : ℕ} {o : Outcome} → columns ≡ columnsOf (state book) → left ≡ positionLeft (state book) fields
       → v ≡ worth columns (nominalsOf left) → x ≡ state book exposures (field fields 1) → n ≡ x - v → account ≡ accountAfter (state book) fields → b ≡ basketOf (state book) (field fields 1)
       → day ≡ state book today 0 → o ≡ picked columns account (butNot (field fields 2) (eligible b day columns)) n → o ≡ substitutes (state book) fields
-  substitutes-found c l w a m p b d q = rw (m, a, w, l, p, b, d, c) at q ∙ sym (substitutes-on-arrays (state book) fields (omega (arith, ranges-of .security)))
+  substitutes-found c l w a m p b d q = rw (m, a, w, l, p, b, d, c) at q ∙ sym (substitutes-on-arrays (state book) fields security-in)
 
   pub value-found : {columns left position : List ℕ} {o : Outcome} {v : ℕ} → columns ≡ columnsOf (state book) → left ≡ positionLeft (state book) fields → o ≡ substitutes (state book) fields
       → position ≡ added left (o .nominals) → v ≡ worth columns (nominalsOf position) → v ≡ valueOf (substituted (state book) fields) (field fields 1)
-  value-found c l o p q = rw (p, l, o, c) at q ∙ sym (value-after (state book) fields (omega (arith, ranges-of .security)))
+  value-found c l o p q = rw (p, l, o, c) at q ∙ sym (value-after (state book) fields security-in)
 
   module _ (small : (i : ℕ) → getD book i 0 < 256) where
     pub good-in : Good (state book)
-    good-in = record { facts = facts-of; fits = state-fits book (k .long) small }
+    good-in = good-of (marking-of refl) small
 
     pub left-within : {row : List ℕ} → row ≡ positionLeft (state book) fields → Within (nominalsOf row)
     left-within p =
-        rw (p, ← position-left (state book) fields (omega (arith, ranges-of .security)))
-        (position-within (recalled (state book) fields) (kept-recalled (state book) fields good-in ranges-of (k .recallable) .good .facts) (field fields 1) (omega (arith, ranges-of .exposure)))
+        rw (p, ← position-left (state book) fields security-in)
+        (position-within (recalled (state book) fields) (kept-recalled (state book) fields good-in ranges-of (k .recallable) .good .facts) (field fields 1) exposure-in)
 
     pub after-within : {row : List ℕ} → row ≡ accountAfter (state book) fields → Within (nominalsOf row)
     after-within p =
-        rw (p, ← account-after (state book) fields (omega (arith, ranges-of .security)))
+        rw (p, ← account-after (state book) fields security-in)
         (account-within (recalled (state book) fields) (kept-recalled (state book) fields good-in ranges-of (k .recallable) .good .facts) (state book exposureGivers (field fields 1)) (giver-in refl))
 
     pub sum-within : {left : List ℕ} {o : Outcome} → left ≡ positionLeft (state book) fields → o ≡ substitutes (state book) fields → Within (nominalsOf (added left (o .nominals)))
     sum-within l o =
-        rw (l, o, ← position-after (state book) fields (omega (arith, ranges-of .security)))
-        (position-within (substituted (state book) fields) (kept-substituted (state book) fields good-in ranges-of (k .recallable) .good .facts) (field fields 1) (omega (arith, ranges-of .exposure)))
+        rw (l, o, ← position-after (state book) fields security-in)
+        (position-within (substituted (state book) fields) (kept-substituted (state book) fields good-in ranges-of (k .recallable) .good .facts) (field fields 1) exposure-in)
 
     -- the nominal may go back, and then the substitutes may come in
     pub one-gives : GivingBack (state book) (field fields 1) (oneNominal (field fields 2) (field fields 3))
     one-gives =
-        gives-back (state book) (field fields 1) (oneNominal (field fields 2) (field fields 3)) facts-of (omega (arith, ranges-of .exposure)) (k .recallable .used)
+        gives-back (state book) (field fields 1) (oneNominal (field fields 2) (field fields 3)) facts-of exposure-in (k .recallable .used)
         (one-returnable (state book) fields good-in ranges-of (k .recallable))
 
     pub found-pledges : {t : State} {o : Outcome} → t ≡ recalled (state book) fields → o ≡ substitutes (state book) fields → Pledging t (field fields 1) (o .nominals)
@@ -171,7 +158,7 @@ module _ {book fields : List ℕ} (k : Recalling book fields) where
     found-pledges q n =
         rw (q, n)
         (pledges (recalled (state book) fields) (field fields 1) (substitutes (state book) fields .nominals) (kept-recalled (state book) fields good-in ranges-of (k .recallable) .good .facts)
-        (omega (arith, ranges-of .exposure)) (k .recallable .used) (pick-pledgeable (recalled (state book) fields) (field fields 1) _ _))
+        exposure-in (k .recallable .used) (pick-pledgeable (recalled (state book) fields) (field fields 1) _ _))
 
 -- the code of all rules, one part after the other; the last is 16
 abbrev lastCode : Bool → ℕ

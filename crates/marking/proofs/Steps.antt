@@ -1,21 +1,18 @@
 -- One exposure's step of each pass: what the code finds on arrays is what the definition gives back or pledges.
 -- Assumes nothing.
-use mathlib.Core.Path.{_≡_, refl, sym, ap, _∙_}
-use mathlib.Core.Bool.{Bool, true, false, cond}
+use mathlib.Core.Path.{_≡_, sym, ap, _∙_}
+use mathlib.Core.Bool.{cond}
 use mathlib.Core.List.{List}
-use Prim.Native.Nat.{ℕ, _+_, _*_, _-_, _≤_, _<_}
+use Prim.Native.Nat.{ℕ, _+_, _*_, _-_, _<_}
 use native.Mathlib.Omega.{arith}
-use lib.Dec.{eqb, ltb}
-use lib.ListN.{getD}
 use borrow.Author.Tests.{eq-eqb, ne-eqb, lt-ltb, le-ltb}
 use Rattle.laws.specs.Filled.{filled}
-use Rattle.baskets.specs.Basket.{eligible}
 use Rattle.baskets.specs.declared.Basket.{Basket}
 use Rattle.picking.specs.Free.{freed}
 use Rattle.picking.specs.declared.Freed.{Freed}
 use Rattle.picking.specs.declared.Outcome.{Outcome}
-use Rattle.book.specs.Layout.{today, useds, exposureGivers, exposures, accounts, positions}
-use Rattle.book.specs.State.{State, state, rowAt, columnsOf, Lowerable}
+use Rattle.book.specs.Layout.{today, useds, exposures, positions}
+use Rattle.book.specs.State.{State, state, columnsOf}
 use Rattle.rules.specs.Marking.{moved, ineligibleOf, ineligibleBack, excessBack, shortfallIn}
 use Rattle.rules.specs.Stock.{basketOf, positionOf, valueOf, eligibleFor, freeFor, pickFor, pledge, giveBack}
 use Rattle.facts.proofs.Stock.{position-at}

@@ -1,22 +1,20 @@
 -- What each way through the steps of a mark shows.
 -- Assumes nothing.
-use mathlib.Core.Path.{_≡_, refl, sym, ap, _∙_}
-use mathlib.Core.Bool.{Bool, true, false, not, cond}
+use mathlib.Core.Path.{_≡_, refl, sym, _∙_}
+use mathlib.Core.Bool.{Bool, true, false, not}
 use mathlib.Core.List.{List}
 use mathlib.Core.Logic.{⊎-elim}
-use Prim.Native.Nat.{ℕ, _+_, _*_, _-_, _≤_, _<_}
-use native.Mathlib.Omega.{arith}
+use Prim.Native.Nat.{ℕ, _+_, _-_, _≤_, _<_}
 use lib.Dec.{eqb}
 use lib.ListN.{getD}
-use borrow.Author.Tests.{eq-eqb, ne-eqb, not-true}
-use Rattle.laws.specs.Search.{all}
+use borrow.Author.Tests.{eq-eqb, ne-eqb}
 use Rattle.laws.proofs.Cases.{either}
 use Rattle.laws.proofs.Least.{Rest, loop-fails, loop-passes}
 use Rattle.baskets.specs.Basket.{eligible}
 use Rattle.baskets.specs.declared.Basket.{Basket}
 use Rattle.securities.specs.Position.{worth, nominalsOf, Within}
 use Rattle.securities.specs.Security.{AllInBounds, AllQuoted}
-use Rattle.book.specs.Layout.{today, useds, exposureGivers, exposureBaskets, exposures}
+use Rattle.book.specs.Layout.{today, useds, exposureBaskets, exposures}
 use Rattle.book.specs.State.{State, state, columnsOf}
 use Rattle.rules.specs.Marking.{missingOf}
 use Rattle.rules.specs.Stock.{basketOf, positionOf, valueOf}

@@ -3,16 +3,16 @@
 use mathlib.Core.Path.{_≡_}
 use mathlib.Core.Bool.{Bool, true, cond}
 use mathlib.Core.List.{List}
-use Prim.Native.Nat.{ℕ, _+_, _*_, _≤_, _<_}
+use Prim.Native.Nat.{ℕ, _≤_, _<_}
 use lib.Dec.{eqb}
 use lib.ListN.{length, getD}
 use Rattle.laws.specs.Filled.{filled}
 use Rattle.laws.specs.Sum.{sum}
 use Rattle.baskets.specs.Basket.{eligible}
 use Rattle.baskets.specs.declared.Basket.{Basket}
-use Rattle.book.specs.Layout.{bookLength, useds, positions, accounts, exposureGivers}
-use Rattle.book.specs.State.{State, state, columnsOf, Lowerable}
-use Rattle.rules.specs.Marking.{onExposures, moved}
+use Rattle.book.specs.Layout.{bookLength}
+use Rattle.book.specs.State.{State, state, columnsOf}
+use Rattle.rules.specs.Marking.{moved}
 use Rattle.rules.specs.Sound.{sound}
 use Rattle.marking_laws.specs.Pass.{onUsed}
 

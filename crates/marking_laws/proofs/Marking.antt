@@ -1,20 +1,19 @@
 -- A mark and an accepted recall leave a good book, each participant's bonds and the exposures' amounts.
 -- Assumes nothing.
 use mathlib.Core.Path.{_≡_, refl, sym, _∙_}
-use mathlib.Core.Bool.{Bool, true, false, not, _&&_, _||_, cond}
+use mathlib.Core.Bool.{true, not, cond}
 use mathlib.Core.List.{List, [], _∷_}
-use mathlib.Core.Logic.{_⊎_, inl, inr, ⊎-elim}
+use mathlib.Core.Logic.{inl, inr, ⊎-elim}
 use Prim.Native.Nat.{ℕ, _+_, _*_, _-_, _%_, _≤_, _<_}
 use native.Mathlib.Nat.{le-refl}
 use native.Mathlib.Decide.{ℕ-discrete}
 use native.Mathlib.Omega.{arith}
 use lib.Dec.{eqb, ltb}
 use lib.ListN.{take, drop}
-use borrow.Author.Tests.{eqb-true, eqb-false, ltb-true, ltb-false, not-false}
-use Rattle.laws.specs.Filled.{filled}
+use borrow.Author.Tests.{eqb-true, ltb-true, ltb-false, not-false}
 use Rattle.laws.proofs.Cases.{either}
 use Rattle.laws.proofs.Filled.{filled-at}
-use Rattle.book.specs.Layout.{lots, useds, exposureGivers, exposures, accounts, positions}
+use Rattle.book.specs.Layout.{lots, useds, exposureGivers, exposures, positions}
 use Rattle.book.specs.State.{State}
 use Rattle.records.specs.Writing.{areLegal}
 use Rattle.rules.specs.Codes.{recallRules}
@@ -24,14 +23,14 @@ use Rattle.rules.specs.Outcome.{lowest, field}
 use Rattle.rules.specs.Sound.{holding}
 use Rattle.rules.specs.Stock.{eligibleFor, securitySetUp, valueOf, freeFor, pickFor, pledge, giveBack}
 use Rattle.facts.proofs.Facts.{Sound}
-use Rattle.facts.proofs.Keeps.{Good, Keeps, Amounts}
+use Rattle.facts.proofs.Keeps.{Good, Keeps}
 use Rattle.facts.proofs.Rows.{position-facts}
 use Rattle.facts.proofs.Truth.{split}
 use Rattle.bond_laws.proofs.Keeping.{good-pledge, good-giveBack}
-use Rattle.bond_laws.proofs.Lots.{InLots, Pledgeable, Returnable, pledge-lowerable, giveBack-lowerable, position-lots, pick-pledgeable, free-returnable}
+use Rattle.bond_laws.proofs.Lots.{Pledgeable, Returnable, pledge-lowerable, giveBack-lowerable, position-lots, pick-pledgeable, free-returnable}
 use Rattle.bond_laws.proofs.Moving.{holding-pledge, holding-giveBack}
 use Rattle.marking_laws.specs.Recalled.{Recallable}
-use Rattle.marking_laws.proofs.Moved.{Bonds, Own, bonds-then, own-none, own-pledge, own-giveBack, NoMore, given-less}
+use Rattle.marking_laws.proofs.Moved.{Bonds, bonds-then, own-none, own-pledge, own-giveBack, NoMore, given-less}
 use Rattle.marking_laws.proofs.Passes.{Local, pass-keeps, pass-bonds}
 use Rattle.marking_laws.proofs.Ranges.{RecallIn, recall-in}
 use Rattle.marking_laws.proofs.Recalls.{one-same, one-other}

@@ -2,13 +2,12 @@
 -- on them finds the substitutes, and their sum the new value.
 -- Assumes nothing.
 use mathlib.Core.Path.{_≡_, refl, sym, ap, _∙_}
-use mathlib.Core.Bool.{Bool}
 use mathlib.Core.List.{List}
-use Prim.Native.Nat.{ℕ, zero, suc, _+_, _*_, _-_, _/_, _%_, _≤_, _<_}
+use Prim.Native.Nat.{ℕ, zero, suc, _+_, _*_, _-_, _/_, _%_, _<_}
 use native.Mathlib.Nat.{le-refl, add-zero}
 use native.Mathlib.Decide.{ℕ-discrete}
 use native.Mathlib.Omega.{arith}
-use lib.ListN.{length, getD, set, replicate, length-set, length-replicate, getD-replicate}
+use lib.ListN.{getD, set, replicate, length-set, length-replicate, getD-replicate}
 use lib.Seq.{ext-getD, getD-set-same, getD-set-other}
 use Rattle.laws.specs.Filled.{filled}
 use Rattle.laws.proofs.Filled.{filled-length, filled-at}
@@ -16,13 +15,13 @@ use Rattle.baskets.specs.Basket.{eligible}
 use Rattle.picking.specs.Pick.{picked, butNot}
 use Rattle.securities.specs.Position.{worth, nominalsOf}
 use Rattle.book.specs.Layout.{today, lots, exposureGivers, exposures, accounts, positions}
-use Rattle.book.specs.State.{State, rowAt, columnsOf, raised, lowered}
+use Rattle.book.specs.State.{State, columnsOf}
 use Rattle.bond_laws.proofs.Moving.{pledge-position, giveBack-account, giveBack-position}
 use Rattle.facts.proofs.Stock.{account-at, position-at}
 use Rattle.rules.specs.Marking.{oneNominal, recalled, substitutes, substituted}
 use Rattle.rules.specs.Outcome.{field}
-use Rattle.rules.specs.Stock.{accountOf, positionOf, basketOf, valueOf, pledge, giveBack}
-use Rattle.marking_laws.specs.Recalled.{more, less, added, accountAfter, positionLeft}
+use Rattle.rules.specs.Stock.{accountOf, positionOf, basketOf, valueOf, pledge}
+use Rattle.marking_laws.specs.Recalled.{added, accountAfter, positionLeft}
 use Rattle.marking_laws.proofs.Moved.{Bonds, own-pledge, own-giveBack}
 
 -- lists filled by rules that agree

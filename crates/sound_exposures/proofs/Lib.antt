@@ -1,2 +1,3 @@
+pub mod Keys
 pub mod Sums
 pub mod Ways

@@ -1,1 +1,3 @@
 pub mod Holdings
+pub mod Keys
+pub mod Positions

@@ -1,1 +1,3 @@
+pub mod Later
+pub mod Marks
 pub mod Ways

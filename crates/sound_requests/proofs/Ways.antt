@@ -11,162 +11,215 @@ use Rattle.laws.specs.Search.{all}
 use Rattle.calendar.specs.Target.{openDay}
 use Rattle.book.specs.Layout.{nextNumber, tolerance, numbers, kinds, sides, givers, takers, objects, amounts, settlements, closings, settleds, partners, pairPartials, cancels, ends, useds, exposureGivers, exposureTakers, exposureBaskets, exposureClosings}
 use Rattle.book.specs.State.{State}
-use Rattle.rules.specs.Requests.{hasKey, exposureWith, exposureOfFop, partnerOf}
+use Rattle.rules.specs.Requests.{isReturn, hasKey, exposureWith, exposureOfFop, partnerOf}
 use Rattle.rules.specs.Sound.{between, openOrNone, soundParties, basketNamed, returnNames, soundFop, soundReturn, soundKind, soundMarks, soundFields, alike, blank, marksAlike, soundPair, soundPaired, soundUnpaired, soundRow, differs, distinctNumber}
-use Rattle.laws.specs.Filled.{filled}
-use Rattle.sound_setup.specs.Rows.{InRows}
-use Rattle.sound_setup.proofs.InRows.{in-rows}
+use Rattle.sound_requests.specs.Rows.{Reads, marksOf, unpairedOf, soundRest}
+use Rattle.sound_requests.specs.declared.Request as declared
 
--- the fourteen tables of a request from the kinds on have 256 rows
-pub in-requests : (n from i : ℕ) → kinds ≤ from → from + n ≤ kinds + 14 → i < 256 → InRows n from i
-unfolding filled
-in-requests n from i g h l = in-rows 256 kinds 14 refl (omega arith) n from i g h l
+-- a closing day
+module _ (d : ℕ) where
+  pub no-day : d ≡ 0 → true ≡ openOrNone d
+  no-day e = rw (eq-eqb d 0 e)
 
--- the exposure that a return names
-module _ (s : State) (i : ℕ) {o : ℕ} (oq : o ≡ s objects i) where
-  pub names-none : 64 ≤ o → false ≡ returnNames s i
-  names-none h = rw (← oq, le-ltb o 64 h)
-
-  module _ (near : o < 64) {u : ℕ} (uq : u ≡ s useds o) where
-    pub names-unused : (u ≡ 1 → ⊥) → false ≡ returnNames s i
-    names-unused h = rw (← oq, ne-eqb (s useds o) 1 (λ m. h (uq ∙ m)), and-false)
-
-    module _ (used : u ≡ 1) {eg g : ℕ} (egq : eg ≡ s exposureGivers o) (gq : g ≡ s givers i) where
-      pub names-other : (eg ≡ g → ⊥) → false ≡ returnNames s i
-      names-other h = rw (← oq, ← egq, ← gq, ne-eqb eg g h, and-false, and-false)
-
-      pub by-taker : {et t : ℕ} → eg ≡ g → et ≡ s exposureTakers o → t ≡ s takers i → eqb et t ≡ returnNames s i
-      by-taker {et} {t} h etq tq = rw (← oq, lt-ltb o 64 near, ← uq, eq-eqb u 1 used, ← egq, ← gq, eq-eqb eg g h, ← etq, ← tq)
-
--- a FOP's own fields
-module _ (s : State) (i : ℕ) {o : ℕ} (oq : o ≡ s objects i) {b : Bool} (bq : b ≡ basketNamed s o) where
-  named : b ≡ basketNamed s (s objects i)
-  named = rw (← oq) bq
-
-  pub fop-basket : not b ≡ true → false ≡ soundFop s i
-  fop-basket h = rw (sym named ∙ not-true b h)
-
-  module _ (bf : not b ≡ false) {t a : ℕ} (tq : t ≡ s tolerance 0) (aq : a ≡ s amounts i) {r : Bool} (rq : r ≡ between t 1000000000000 a) where
-    ranged : r ≡ between (s tolerance 0) 1000000000000 (s amounts i)
-    ranged = rw (← tq, ← aq) rq
-
-    pub fop-amount : not r ≡ true → false ≡ soundFop s i
-    fop-amount h = rw (sym ranged ∙ not-true r h, and-false)
-
-    pub by-closing : {c : ℕ} {d : Bool} → not r ≡ false → c ≡ s closings i → d ≡ openOrNone c → d ≡ soundFop s i
-    by-closing h cq dq = rw (sym named ∙ not-false b bf, sym ranged ∙ not-false r h, ← cq) dq
-
--- a return's own fields
-module _ (s : State) (i : ℕ) {b : Bool} (bq : b ≡ returnNames s i) where
-  pub return-exposure : not b ≡ true → false ≡ soundReturn s i
-  return-exposure h = rw (sym bq ∙ not-true b h)
-
-  module _ (bf : not b ≡ false) {a : ℕ} (aq : a ≡ s amounts i) {r : Bool} (rq : r ≡ between 1 1000000000000 a) where
-    ranged-return : r ≡ between 1 1000000000000 (s amounts i)
-    ranged-return = rw (← aq) rq
-
-    pub return-amount : not r ≡ true → false ≡ soundReturn s i
-    return-amount h = rw (sym ranged-return ∙ not-true r h, and-false)
-
-    pub by-no-closing : {c : ℕ} → not r ≡ false → c ≡ s closings i → eqb c 0 ≡ soundReturn s i
-    by-no-closing h cq = rw (sym bq ∙ not-false b bf, sym ranged-return ∙ not-false r h, ← cq)
-
--- by the kind
-module _ (s : State) (i : ℕ) {k : ℕ} (kq : k ≡ s kinds i) where
-  pub by-fop : {b : Bool} → k ≡ 6 → b ≡ soundFop s i → b ≡ soundKind s i
-  by-fop h q = let six : s kinds i ≡ 6 = sym kq ∙ h in rw (six, or-false) q
-
-  pub by-return : {b : Bool} → k ≡ 7 → b ≡ soundReturn s i → b ≡ soundKind s i
-  by-return h q = let seven : s kinds i ≡ 7 = sym kq ∙ h in rw seven q
-
-  pub no-kind : (k ≡ 6 → ⊥) → (k ≡ 7 → ⊥) → false ≡ soundKind s i
-  no-kind a b = rw (← kq, ne-eqb k 6 a, ne-eqb k 7 b)
+  pub by-day : {b : Bool} → (d ≡ 0 → ⊥) → b ≡ openDay d → b ≡ openOrNone d
+  by-day n e = rw (ne-eqb d 0 n) e
 
 -- the marks of a row
-module _ (s : State) (i : ℕ) {a d : ℕ} (aq : a ≡ s amounts i) (dq : d ≡ s settleds i) where
-  pub too-much : a < d → false ≡ soundMarks s i
-  too-much h = rw (← aq, ← dq, lt-leb d a h)
+module _ (q : declared.Request) where
+  pub too-much : q .amount < q .settled → false ≡ marksOf q
+  too-much h = rw (lt-leb (q .settled) (q .amount) h)
 
-  module _ (within : d ≤ a) {p : ℕ} (pq : p ≡ s pairPartials i) where
-    pub bad-partial : 1 < p → false ≡ soundMarks s i
-    bad-partial h = rw (← pq, lt-leb p 1 h, and-false)
+  module _ (within : q .settled ≤ q .amount) where
+    pub bad-partial : 1 < q .partial → false ≡ marksOf q
+    bad-partial h = rw (lt-leb (q .partial) 1 h, and-false)
 
-    module _ (pl : p ≤ 1) {c : ℕ} (cq : c ≡ s cancels i) where
-      pub bad-cancel : 1 < c → false ≡ soundMarks s i
-      bad-cancel h = rw (← cq, lt-leb c 1 h, and-false, and-false)
+    module _ (partial : q .partial ≤ 1) where
+      pub bad-cancel : 1 < q .cancel → false ≡ marksOf q
+      bad-cancel h = rw (lt-leb (q .cancel) 1 h, and-false, and-false)
 
-      pub by-end : {e : ℕ} → c ≤ 1 → e ≡ s ends i → leb e 1 ≡ soundMarks s i
-      by-end h eq = rw (← aq, ← dq, le-leb d a within, ← pq, le-leb p 1 pl, ← cq, le-leb c 1 h, ← eq)
+      pub by-end : q .cancel ≤ 1 → leb (q .end) 1 ≡ marksOf q
+      by-end h = rw (le-leb (q .settled) (q .amount) within, le-leb (q .partial) 1 partial, le-leb (q .cancel) 1 h)
 
--- the fields of a row
-module _ (s : State) (i : ℕ) {x n : ℕ} (xq : x ≡ s nextNumber 0) (nq : n ≡ s numbers i) where
-  pub late-number : x ≤ n → false ≡ soundFields s i
-  late-number h = rw (← xq, ← nq, le-ltb n x h)
+  -- an unpaired row
+  pub some-settled : (q .settled ≡ 0 → ⊥) → false ≡ unpairedOf q
+  some-settled h = rw (ne-eqb (q .settled) 0 h)
 
-  module _ (below : n < x) {d : ℕ} (dq : d ≡ s sides i) where
-    pub bad-side : 1 < d → false ≡ soundFields s i
-    bad-side h = rw (← dq, lt-leb d 1 h, and-false)
+  pub by-no-partial : q .settled ≡ 0 → eqb (q .partial) 0 ≡ unpairedOf q
+  by-no-partial h = rw (eq-eqb (q .settled) 0 h)
 
-    module _ (dl : d ≤ 1) {g t : ℕ} (gq : g ≡ s givers i) (tq : t ≡ s takers i) {p : Bool} (pq : p ≡ soundParties s g t) where
-      parties : p ≡ soundParties s (s givers i) (s takers i)
-      parties = rw (← gq, ← tq) pq
+module _ (s : State) (q : declared.Request) (r : Reads s q) where
+  -- the exposure that a return names
+  pub names-none : 64 ≤ q .object → false ≡ returnNames s (q .row)
+  names-none h = rw (← r .object, le-ltb (q .object) 64 h)
 
-      pub bad-parties : not p ≡ true → false ≡ soundFields s i
-      bad-parties h = rw (sym parties ∙ not-true p h, and-false, and-false)
+  module _ (near : q .object < 64) {u : ℕ} (uq : u ≡ s useds (q .object)) where
+    pub names-unused : (u ≡ 1 → ⊥) → false ≡ returnNames s (q .row)
+    names-unused h = rw (← r .object, ne-eqb (s useds (q .object)) 1 (λ m. h (uq ∙ m)), and-false)
 
-      module _ (pf : not p ≡ false) {k : Bool} (kq : k ≡ soundKind s i) where
-        pub bad-kind : not k ≡ true → false ≡ soundFields s i
-        bad-kind h = rw (sym kq ∙ not-true k h, and-false, and-false, and-false)
+    module _ (used : u ≡ 1) {eg : ℕ} (egq : eg ≡ s exposureGivers (q .object)) where
+      pub names-other : (eg ≡ q .giver → ⊥) → false ≡ returnNames s (q .row)
+      names-other h = rw (← r .object, ← egq, ← r .giver, ne-eqb eg (q .giver) h, and-false, and-false)
 
-        module _ (kf : not k ≡ false) {y : ℕ} (yq : y ≡ s settlements i) {o : Bool} (oq : o ≡ openDay y) where
-          open-then : o ≡ openDay (s settlements i)
-          open-then = rw (← yq) oq
+      pub by-taker : {et : ℕ} → eg ≡ q .giver → et ≡ s exposureTakers (q .object) → eqb et (q .taker) ≡ returnNames s (q .row)
+      by-taker {et} h etq = rw (← r .object, lt-ltb (q .object) 64 near, ← uq, eq-eqb u 1 used, ← egq, ← r .giver, eq-eqb eg (q .giver) h, ← etq, ← r .taker)
 
-          pub bad-settlement : not o ≡ true → false ≡ soundFields s i
-          bad-settlement h = rw (sym open-then ∙ not-true o h, and-false, and-false, and-false, and-false)
+  -- a FOP's own fields
+  module _ {b : Bool} (bq : b ≡ basketNamed s (q .object)) where
+    named : b ≡ basketNamed s (s objects (q .row))
+    named = rw (← r .object) bq
 
-          pub by-marks : {m : Bool} → not o ≡ false → m ≡ soundMarks s i → m ≡ soundFields s i
-          by-marks h mq =
-              rw (← xq, ← nq, lt-ltb n x below, ← dq, le-leb d 1 dl, sym parties ∙ not-false p pf, sym kq ∙ not-false k kf, sym open-then ∙ not-false o h) mq
+    pub fop-basket : not b ≡ true → false ≡ soundFop s (q .row)
+    fop-basket h = rw (sym named ∙ not-true b h)
 
--- two rows that are paired
-module _ (s : State) (i j : ℕ) where
-  pub no-partner : 256 ≤ j → false ≡ soundPair s i j
-  no-partner h = rw (le-ltb j 256 h)
+    module _ {t : ℕ} {m : Bool} (tq : t ≡ s tolerance 0) (mq : m ≡ between t 1000000000000 (q .amount)) where
+      ranged : m ≡ between (s tolerance 0) 1000000000000 (s amounts (q .row))
+      ranged = rw (← tq, ← r .amount) mq
 
-  module _ (near : j < 256) {p : ℕ} (pq : p ≡ s partners j) where
-    pub not-named : (p ≡ i + 1 → ⊥) → false ≡ soundPair s i j
-    not-named h = rw (← pq, ne-eqb p (i + 1) h, and-false)
+      pub fop-amount : not m ≡ true → false ≡ soundFop s (q .row)
+      fop-amount h = rw (sym ranged ∙ not-true m h, and-false)
 
-    module _ (named : p ≡ i + 1) {d f : ℕ} (dq : d ≡ s sides i) (fq : f ≡ s sides j) {v : Bool} (vq : v ≡ eqb (d + f) 1) where
-      sides-are : v ≡ eqb (s sides i + s sides j) 1
-      sides-are = rw (← dq, ← fq) vq
+      pub by-closing : {d : Bool} → not b ≡ false → not m ≡ false → d ≡ openOrNone (q .closing) → d ≡ soundFop s (q .row)
+      by-closing bf mf dq = rw (sym named ∙ not-false b bf, sym ranged ∙ not-false m mf, ← r .closing) dq
 
-      pub same-side : not v ≡ true → false ≡ soundPair s i j
-      same-side h = rw (sym sides-are ∙ not-true v h, and-false, and-false)
+  -- a return's own fields
+  module _ {b : Bool} (bq : b ≡ returnNames s (q .row)) where
+    pub return-exposure : not b ≡ true → false ≡ soundReturn s (q .row)
+    return-exposure h = rw (sym bq ∙ not-true b h)
 
-      module _ (opposite : not v ≡ false) {k l : ℕ} (kq : k ≡ s kinds i) (lq : l ≡ s kinds j) where
-        pub other-kind : (k ≡ l → ⊥) → false ≡ soundPair s i j
-        other-kind h = rw (← kq, ← lq, ne-eqb k l h, and-false, and-false, and-false)
+    module _ {m : Bool} (mq : m ≡ between 1 1000000000000 (q .amount)) where
+      ranged-return : m ≡ between 1 1000000000000 (s amounts (q .row))
+      ranged-return = rw (← r .amount) mq
 
-        module _ (kind : k ≡ l) {a : Bool} (aq : a ≡ alike s 6 givers i j) where
-          pub other-fields : not a ≡ true → false ≡ soundPair s i j
-          other-fields h = rw (sym aq ∙ not-true a h, and-false, and-false, and-false, and-false)
+      pub return-amount : not m ≡ true → false ≡ soundReturn s (q .row)
+      return-amount h = rw (sym ranged-return ∙ not-true m h, and-false)
 
-          pub by-pair-marks : {m : Bool} → not a ≡ false → m ≡ marksAlike s i j → m ≡ soundPair s i j
-          by-pair-marks h mq =
-              rw (lt-ltb j 256 near, ← pq, eq-eqb p (i + 1) named, sym sides-are ∙ not-false v opposite, ← kq, ← lq, eq-eqb k l kind, sym aq ∙ not-false a h) mq
+      pub by-no-closing : not b ≡ false → not m ≡ false → eqb (q .closing) 0 ≡ soundReturn s (q .row)
+      by-no-closing bf mf = rw (sym bq ∙ not-false b bf, sym ranged-return ∙ not-false m mf, ← r .closing)
 
-module _ (s : State) (i j : ℕ) {a b : ℕ} (aq : a ≡ s settleds i) (bq : b ≡ s settleds j) where
-  pub other-settled : (a ≡ b → ⊥) → false ≡ marksAlike s i j
-  other-settled h = rw (← aq, ← bq, ne-eqb a b h)
+  -- by the kind
+  pub by-fop : {b : Bool} → q .kind ≡ 6 → b ≡ soundFop s (q .row) → b ≡ soundKind s (q .row)
+  by-fop h e = let six : s kinds (q .row) ≡ 6 = sym (r .kind) ∙ h in rw (six, or-false) e
 
-  module _ (equal : a ≡ b) {c d : ℕ} (cq : c ≡ s ends i) (dq : d ≡ s ends j) where
-    pub other-end : (c ≡ d → ⊥) → false ≡ marksAlike s i j
-    other-end h = rw (← cq, ← dq, ne-eqb c d h, and-false)
+  pub by-return : {b : Bool} → q .kind ≡ 7 → b ≡ soundReturn s (q .row) → b ≡ soundKind s (q .row)
+  by-return h e = let seven : s kinds (q .row) ≡ 7 = sym (r .kind) ∙ h in rw seven e
 
-    pub by-partial : {e f : ℕ} → c ≡ d → e ≡ s pairPartials i → f ≡ s pairPartials j → eqb e f ≡ marksAlike s i j
-    by-partial h eq fq = rw (← aq, ← bq, eq-eqb a b equal, ← cq, ← dq, eq-eqb c d h, ← eq, ← fq)
+  pub no-kind : (q .kind ≡ 6 → ⊥) → (q .kind ≡ 7 → ⊥) → false ≡ soundKind s (q .row)
+  no-kind a b = rw (← r .kind, ne-eqb (q .kind) 6 a, ne-eqb (q .kind) 7 b)
+
+  -- the fields of a row
+  module _ {x : ℕ} (xq : x ≡ s nextNumber 0) where
+    pub late-number : x ≤ q .number → false ≡ soundFields s (q .row)
+    late-number h = rw (← xq, ← r .number, le-ltb (q .number) x h)
+
+    module _ (below : q .number < x) where
+      pub bad-side : 1 < q .side → false ≡ soundFields s (q .row)
+      bad-side h = rw (← r .side, lt-leb (q .side) 1 h, and-false)
+
+      module _ (side : q .side ≤ 1) {p : Bool} (pq : p ≡ soundParties s (q .giver) (q .taker)) where
+        parties : p ≡ soundParties s (s givers (q .row)) (s takers (q .row))
+        parties = rw (← r .giver, ← r .taker) pq
+
+        pub bad-parties : not p ≡ true → false ≡ soundFields s (q .row)
+        bad-parties h = rw (sym parties ∙ not-true p h, and-false, and-false)
+
+        module _ (pf : not p ≡ false) {k : Bool} (kq : k ≡ soundKind s (q .row)) where
+          pub bad-kind : not k ≡ true → false ≡ soundFields s (q .row)
+          bad-kind h = rw (sym kq ∙ not-true k h, and-false, and-false, and-false)
+
+          module _ (kf : not k ≡ false) {o : Bool} (oq : o ≡ openDay (q .settlement)) where
+            open-then : o ≡ openDay (s settlements (q .row))
+            open-then = rw (← r .settlement) oq
+
+            pub bad-settlement : not o ≡ true → false ≡ soundFields s (q .row)
+            bad-settlement h = rw (sym open-then ∙ not-true o h, and-false, and-false, and-false, and-false)
+
+            pub by-marks : {m : Bool} → not o ≡ false → m ≡ marksOf q → m ≡ soundFields s (q .row)
+            by-marks h mq =
+                rw (← xq, ← r .number, lt-ltb (q .number) x below, ← r .side, le-leb (q .side) 1 side, sym parties ∙ not-false p pf, sym kq ∙ not-false k kf, sym open-then ∙ not-false o h, ← r .settled, ← r .amount, ← r .partial, ← r .cancel, ← r .end) mq
+
+  -- two rows that are paired
+  module _ (j : ℕ) where
+    pub no-partner : 256 ≤ j → false ≡ soundPair s (q .row) j
+    no-partner h = rw (le-ltb j 256 h)
+
+    module _ (near : j < 256) {p : ℕ} (pq : p ≡ s partners j) where
+      pub not-named : (p ≡ q .row + 1 → ⊥) → false ≡ soundPair s (q .row) j
+      not-named h = rw (← pq, ne-eqb p (q .row + 1) h, and-false)
+
+      module _ (match : p ≡ q .row + 1) {f : ℕ} {v : Bool} (fq : f ≡ s sides j) (vq : v ≡ eqb (q .side + f) 1) where
+        sides-are : v ≡ eqb (s sides (q .row) + s sides j) 1
+        sides-are = rw (← r .side, ← fq) vq
+
+        pub same-side : not v ≡ true → false ≡ soundPair s (q .row) j
+        same-side h = rw (sym sides-are ∙ not-true v h, and-false, and-false)
+
+        module _ (opposite : not v ≡ false) {l : ℕ} (lq : l ≡ s kinds j) where
+          pub other-kind : (q .kind ≡ l → ⊥) → false ≡ soundPair s (q .row) j
+          other-kind h = rw (← r .kind, ← lq, ne-eqb (q .kind) l h, and-false, and-false, and-false)
+
+          module _ (kind : q .kind ≡ l) {a : Bool} (aq : a ≡ alike s 6 givers (q .row) j) where
+            pub other-terms : not a ≡ true → false ≡ soundPair s (q .row) j
+            other-terms h = rw (sym aq ∙ not-true a h, and-false, and-false, and-false, and-false)
+
+            pub by-pair-marks : {m : Bool} → not a ≡ false → m ≡ marksAlike s (q .row) j → m ≡ soundPair s (q .row) j
+            by-pair-marks h mq =
+                rw (lt-ltb j 256 near, ← pq, eq-eqb p (q .row + 1) match, sym sides-are ∙ not-false v opposite, ← r .kind, ← lq, eq-eqb (q .kind) l kind, sym aq ∙ not-false a h) mq
+
+    -- their marks
+    module _ {b : ℕ} (bq : b ≡ s settleds j) where
+      pub other-settled : (q .settled ≡ b → ⊥) → false ≡ marksAlike s (q .row) j
+      other-settled h = rw (← r .settled, ← bq, ne-eqb (q .settled) b h)
+
+      module _ (equal : q .settled ≡ b) {d : ℕ} (dq : d ≡ s ends j) where
+        pub other-end : (q .end ≡ d → ⊥) → false ≡ marksAlike s (q .row) j
+        other-end h = rw (← r .end, ← dq, ne-eqb (q .end) d h, and-false)
+
+        pub by-partial : {f : ℕ} → q .end ≡ d → f ≡ s pairPartials j → eqb (q .partial) f ≡ marksAlike s (q .row) j
+        by-partial {f} h fq = rw (← r .settled, ← bq, eq-eqb (q .settled) b equal, ← r .end, ← dq, eq-eqb (q .end) d h, ← r .partial, ← fq)
+
+  -- the exposure of a FOP
+  pub return-belongs : q .kind ≡ 7 → true ≡ (isReturn s (q .row) || ltb (exposureOfFop s (q .row)) 64)
+  return-belongs h = rw (eq-eqb (s kinds (q .row)) 7 (sym (r .kind) ∙ h))
+
+  pub by-exposure : {b : Bool} → (q .kind ≡ 7 → ⊥) → b ≡ ltb (exposureWith s (q .giver) (q .taker) (q .object) (q .closing)) 64
+      → b ≡ (isReturn s (q .row) || ltb (exposureOfFop s (q .row)) 64)
+  by-exposure h e = rw (ne-eqb (s kinds (q .row)) 7 (λ m. h (r .kind ∙ m)), ← r .giver, ← r .taker, ← r .object, ← r .closing) e
+
+  -- a paired row
+  module _ {b : Bool} (bq : b ≡ soundPair s (q .row) (q .partner - 1)) where
+    pair : b ≡ soundPair s (q .row) (partnerOf s (q .row))
+    pair = bq ∙ ap (λ (x : ℕ). soundPair s (q .row) (x - 1)) (r .partner)
+
+    pub bad-pair : not b ≡ true → false ≡ soundPaired s (q .row)
+    bad-pair h = rw (sym pair ∙ not-true b h)
+
+    pub by-belonging : {m : Bool} → not b ≡ false → m ≡ (isReturn s (q .row) || ltb (exposureOfFop s (q .row)) 64) → m ≡ soundPaired s (q .row)
+    by-belonging h e = rw (sym pair ∙ not-false b h) e
+
+  -- what a row has besides its fields
+  pub by-unpaired : {b : Bool} → q .partner ≡ 0 → b ≡ unpairedOf q → b ≡ soundRest s (q .row)
+  by-unpaired h e = rw (eq-eqb (s partners (q .row)) 0 (sym (r .partner) ∙ h), ← r .settled, ← r .partial) e
+
+  pub by-paired : {b : Bool} → (q .partner ≡ 0 → ⊥) → b ≡ soundPaired s (q .row) → b ≡ soundRest s (q .row)
+  by-paired h e = rw (ne-eqb (s partners (q .row)) 0 (λ m. h (r .partner ∙ m))) e
+
+-- a row
+module _ (s : State) (i : ℕ) where
+  pub by-blank : {n : ℕ} {b : Bool} → n ≡ s numbers i → n ≡ 0 → b ≡ blank s 14 kinds i → b ≡ soundRow s i
+  by-blank nq h e = rw (eq-eqb (s numbers i) 0 (sym nq ∙ h)) e
+
+  module _ (used : 0 < s numbers i) {n : ℕ} (at : n ≡ i) {f : Bool} (fq : f ≡ soundFields s n) where
+    is-used : eqb (s numbers i) 0 ≡ false
+    is-used = ne-eqb (s numbers i) 0 (λ m. omega arith)
+
+    fields : f ≡ soundFields s i
+    fields = rw (← at) fq
+
+    pub bad-fields : not f ≡ true → false ≡ soundRow s i
+    bad-fields h = rw (is-used, sym fields ∙ not-true f h)
+
+    pub by-rest : {b : Bool} → not f ≡ false → b ≡ soundRest s n → b ≡ soundRow s i
+    by-rest h e = rw (is-used, sym fields ∙ not-false f h, ← at) e
 
 -- a key
 module _ (s : State) (giver taker basket closing e : ℕ) {u : ℕ} (uq : u ≡ s useds e) where
@@ -187,33 +240,6 @@ module _ (s : State) (giver taker basket closing e : ℕ) {u : ℕ} (uq : u ≡ 
 
         pub by-key-closing : {c : ℕ} → b ≡ basket → c ≡ s exposureClosings e → eqb c closing ≡ hasKey s giver taker basket closing e
         by-key-closing h cq = rw (← uq, eq-eqb u 1 used, ← gq, eq-eqb g giver gh, ← tq, eq-eqb t taker th, ← bq, eq-eqb b basket h, ← cq)
-
--- an unpaired row
-module _ (s : State) (i : ℕ) {d : ℕ} (dq : d ≡ s settleds i) where
-  pub some-settled : (d ≡ 0 → ⊥) → false ≡ soundUnpaired s i
-  some-settled h = rw (← dq, ne-eqb d 0 h)
-
-  pub by-no-partial : {p : ℕ} → d ≡ 0 → p ≡ s pairPartials i → eqb p 0 ≡ soundUnpaired s i
-  by-no-partial h pq = rw (← dq, eq-eqb d 0 h, ← pq)
-
--- a row
-module _ (s : State) (i : ℕ) {n : ℕ} (nq : n ≡ s numbers i) where
-  pub by-blank : {b : Bool} → n ≡ 0 → b ≡ blank s 14 kinds i → b ≡ soundRow s i
-  by-blank h q = rw (eq-eqb (s numbers i) 0 (sym nq ∙ h)) q
-
-  module _ (used : n ≡ 0 → ⊥) {f : Bool} (fq : f ≡ soundFields s i) where
-    is-used : eqb (s numbers i) 0 ≡ false
-    is-used = ne-eqb (s numbers i) 0 (λ m. used (nq ∙ m))
-
-    pub bad-fields : not f ≡ true → false ≡ soundRow s i
-    bad-fields h = rw (is-used, sym fq ∙ not-true f h)
-
-    module _ (ff : not f ≡ false) {p : ℕ} (pq : p ≡ s partners i) where
-      pub by-unpaired : {b : Bool} → p ≡ 0 → b ≡ soundUnpaired s i → b ≡ soundRow s i
-      by-unpaired h q = rw (is-used, sym fq ∙ not-false f ff, eq-eqb (s partners i) 0 (sym pq ∙ h)) q
-
-      pub by-paired : {b : Bool} → (p ≡ 0 → ⊥) → b ≡ soundPaired s i → b ≡ soundRow s i
-      by-paired h q = rw (is-used, sym fq ∙ not-false f ff, ne-eqb (s partners i) 0 (λ m. h (pq ∙ m))) q
 
 -- distinct numbers
 module _ (s : State) (i : ℕ) {n : ℕ} (nq : n ≡ s numbers i) where
@@ -238,23 +264,3 @@ first-taker a b h = rw h (go b)
 
 pub no-side : (a b : ℕ) → (a ≡ 0 → ⊥) → (a ≡ 1 → ⊥) → false ≡ eqb (a + b) 1
 no-side a b h k = sym (ne-eqb (a + b) 1 (λ q. omega arith))
-
--- a paired row
-module _ (s : State) (i : ℕ) {p : ℕ} (pq : p ≡ s partners i) {b : Bool} (bq : b ≡ soundPair s i (p - 1)) where
-  pair : b ≡ soundPair s i (partnerOf s i)
-  pair = bq ∙ ap (λ (x : ℕ). soundPair s i (x - 1)) pq
-
-  pub bad-pair : not b ≡ true → false ≡ soundPaired s i
-  bad-pair h = rw (sym pair ∙ not-true b h)
-
-  module _ (bf : not b ≡ false) {k : ℕ} (kq : k ≡ s kinds i) where
-    is-pair : soundPair s i (partnerOf s i) ≡ true
-    is-pair = sym pair ∙ not-false b bf
-
-    pub return-pair : k ≡ 7 → true ≡ soundPaired s i
-    return-pair h = rw (is-pair, eq-eqb (s kinds i) 7 (sym kq ∙ h))
-
-    pub by-exposure : {g t o c e : ℕ} → (k ≡ 7 → ⊥) → g ≡ s givers i → t ≡ s takers i → o ≡ s objects i → c ≡ s closings i → e ≡ exposureWith s g t o c → ltb e 64 ≡ soundPaired s i
-    by-exposure {g} {t} {o} {c} {e} h gq tq oq cq q =
-        let key : e ≡ exposureOfFop s i = rw (← gq, ← tq, ← oq, ← cq) q in
-        rw (is-pair, ne-eqb (s kinds i) 7 (λ m. h (kq ∙ m)), ← key)

@@ -1,13 +1,16 @@
 // Document 01's soundness sentence, of the request rows: fields, pairs, distinct numbers.
+ghost use mathlib.Core.Bool.{_||_, true};
 ghost use mathlib.Core.Path.{_≡_};
 ghost use Prim.Native.Nat.{_+_, _<_};
-ghost use lib.Dec.{eqb};
+ghost use lib.Dec.{eqb, ltb};
 ghost use lib.ListN.{length};
 ghost use Rattle.laws.specs.Search.{all};
-ghost use Rattle.book.specs.Layout.{bookLength};
+ghost use Rattle.book.specs.Layout.{bookLength, numbers, kinds, givers};
 ghost use Rattle.book.specs.State.{state};
-ghost use Rattle.rules.specs.Requests.{hasKey, exposureWith};
-ghost use Rattle.rules.specs.Sound.{returnNames, soundFop, soundReturn, soundKind, soundMarks, soundFields, marksAlike, soundPair, soundPaired, soundUnpaired, soundRow, differs, distinctNumber};
+ghost use Rattle.rules.specs.Requests.{isReturn, hasKey, exposureWith, exposureOfFop};
+ghost use Rattle.rules.specs.Sound.{openOrNone, returnNames, soundFop, soundReturn, soundKind, soundMarks, soundFields, alike, blank, marksAlike, soundPair, soundPaired, soundUnpaired, soundRow, differs, distinctNumber};
+ghost use Rattle.sound_setup.specs.Days.{OpenDays};
+ghost use Rattle.sound_requests.specs.Rows.{Reads, marksOf, unpairedOf, soundRest, Later, Passed, Marked};
 use book::layout::AMOUNTS;
 use book::layout::CANCELS;
 use book::layout::CLOSINGS;
@@ -23,6 +26,7 @@ use book::layout::NUMBERS;
 use book::layout::OBJECTS;
 use book::layout::PAIR_PARTIALS;
 use book::layout::PARTNERS;
+use book::layout::REFERENCES;
 use book::layout::SETTLEDS;
 use book::layout::SETTLEMENTS;
 use book::layout::SIDES;
@@ -30,12 +34,54 @@ use book::layout::TAKERS;
 use book::layout::TOLERANCE;
 use book::layout::USEDS;
 
-// Does a return name a used exposure of its giver and taker?
-fn does_return_name(book: &[u8], i: usize) -> bool
+// A used row, each field read once: the reference says nothing about soundness.
+pub struct Request {
+    pub row: usize,
+    pub number: u64,
+    pub kind: u64,
+    pub side: u64,
+    pub giver: u64,
+    pub taker: u64,
+    pub object: u64,
+    pub amount: u64,
+    pub settlement: u64,
+    pub closing: u64,
+    pub settled: u64,
+    pub partner: u64,
+    pub partial: u64,
+    pub cancel: u64,
+    pub end: u64,
+}
+
+fn request_at(book: &[u8], i: usize) -> Request
     requires { ⌜ (length (now book) ≡ bookLength) × (i < 256) ⌝ }
-    ensures { λ r. ⌜ r ≡ returnNames (state (now (book .entry))) i ⌝ }
+    ensures { λ r. ⌜ (r .row ≡ i) × Reads (state (now (book .entry))) r ⌝ }
 {
-    let object = book::get(book, OBJECTS, i);
+    Request {
+        row: i,
+        number: book::get(book, NUMBERS, i),
+        kind: book::get(book, KINDS, i),
+        side: book::get(book, SIDES, i),
+        giver: book::get(book, GIVERS, i),
+        taker: book::get(book, TAKERS, i),
+        object: book::get(book, OBJECTS, i),
+        amount: book::get(book, AMOUNTS, i),
+        settlement: book::get(book, SETTLEMENTS, i),
+        closing: book::get(book, CLOSINGS, i),
+        settled: book::get(book, SETTLEDS, i),
+        partner: book::get(book, PARTNERS, i),
+        partial: book::get(book, PAIR_PARTIALS, i),
+        cancel: book::get(book, CANCELS, i),
+        end: book::get(book, ENDS, i),
+    }
+}
+
+// Does a return name a used exposure of its giver and taker?
+fn does_return_name(book: &[u8], q: Request) -> bool
+    requires { ⌜ (length (now book) ≡ bookLength) × Reads (state (now book)) q ⌝ }
+    ensures { λ r. ⌜ r ≡ returnNames (state (now (book .entry))) (q .row) ⌝ }
+{
+    let object = q.object;
     if 64 <= object {
         return false;
     }
@@ -43,98 +89,111 @@ fn does_return_name(book: &[u8], i: usize) -> bool
     if book::get(book, USEDS, e) != 1 {
         return false;
     }
-    if book::get(book, EXPOSURE_GIVERS, e) != book::get(book, GIVERS, i) {
+    if book::get(book, EXPOSURE_GIVERS, e) != q.giver {
         return false;
     }
-    book::get(book, EXPOSURE_TAKERS, e) == book::get(book, TAKERS, i)
+    book::get(book, EXPOSURE_TAKERS, e) == q.taker
 }
 
-fn is_sound_fop(book: &[u8], i: usize) -> bool
-    requires { ⌜ (length (now book) ≡ bookLength) × (i < 256) ⌝ }
-    ensures { λ r. ⌜ r ≡ soundFop (state (now (book .entry))) i ⌝ }
+// Is a closing day open, or none?
+fn is_known_or_none(days: &[u64; 16], day: u64) -> bool
+    requires { ⌜ OpenDays (now days) ⌝ }
+    ensures { λ r. ⌜ r ≡ openOrNone day ⌝ }
 {
-    if !sound_setup::is_basket_named(book, book::get(book, OBJECTS, i)) {
-        return false;
+    if day == 0 {
+        return true;
     }
-    if !sound_setup::is_between(
-        book::get(book, TOLERANCE, 0),
-        1000000000000,
-        book::get(book, AMOUNTS, i),
-    ) {
-        return false;
-    }
-    sound_setup::is_open_or_none(book::get(book, CLOSINGS, i))
+    sound_setup::is_known_open(days, day)
 }
 
-fn is_sound_return(book: &[u8], i: usize) -> bool
-    requires { ⌜ (length (now book) ≡ bookLength) × (i < 256) ⌝ }
-    ensures { λ r. ⌜ r ≡ soundReturn (state (now (book .entry))) i ⌝ }
+// The tests of a row are made one after the other and looked at in the end: a sound book passes them all.
+fn is_sound_fop(book: &[u8], q: Request, days: &[u64; 16]) -> bool
+    requires { ⌜ (length (now book) ≡ bookLength) × Reads (state (now book)) q × OpenDays (now days) ⌝ }
+    ensures { λ r. ⌜ r ≡ soundFop (state (now (book .entry))) (q .row) ⌝ }
 {
-    if !does_return_name(book, i) {
+    let named = sound_setup::is_basket_named(book, q.object);
+    let least = book::get(book, TOLERANCE, 0);
+    let ranged = sound_setup::is_between(least, 1000000000000, q.amount);
+    let closes = is_known_or_none(days, q.closing);
+    if !named {
         return false;
     }
-    if !sound_setup::is_between(1, 1000000000000, book::get(book, AMOUNTS, i)) {
+    if !ranged {
         return false;
     }
-    book::get(book, CLOSINGS, i) == 0
+    closes
+}
+
+fn is_sound_return(book: &[u8], q: Request) -> bool
+    requires { ⌜ (length (now book) ≡ bookLength) × Reads (state (now book)) q ⌝ }
+    ensures { λ r. ⌜ r ≡ soundReturn (state (now (book .entry))) (q .row) ⌝ }
+{
+    let named = does_return_name(book, q);
+    let ranged = sound_setup::is_between(1, 1000000000000, q.amount);
+    if !named {
+        return false;
+    }
+    if !ranged {
+        return false;
+    }
+    q.closing == 0
 }
 
 // The fields that depend on the kind.
-fn is_sound_kind(book: &[u8], i: usize) -> bool
-    requires { ⌜ (length (now book) ≡ bookLength) × (i < 256) ⌝ }
-    ensures { λ r. ⌜ r ≡ soundKind (state (now (book .entry))) i ⌝ }
+fn is_sound_kind(book: &[u8], q: Request, days: &[u64; 16]) -> bool
+    requires { ⌜ (length (now book) ≡ bookLength) × Reads (state (now book)) q × OpenDays (now days) ⌝ }
+    ensures { λ r. ⌜ r ≡ soundKind (state (now (book .entry))) (q .row) ⌝ }
 {
-    let kind = book::get(book, KINDS, i);
-    if kind == 6 {
-        return is_sound_fop(book, i);
+    if q.kind == 6 {
+        return is_sound_fop(book, q, days);
     }
-    if kind == 7 {
-        return is_sound_return(book, i);
+    if q.kind == 7 {
+        return is_sound_return(book, q);
     }
     false
 }
 
 // The marks of a row, and what it has settled.
-fn are_sound_marks(book: &[u8], i: usize) -> bool
-    requires { ⌜ (length (now book) ≡ bookLength) × (i < 256) ⌝ }
-    ensures { λ r. ⌜ r ≡ soundMarks (state (now (book .entry))) i ⌝ }
+fn are_sound_marks(q: Request) -> bool
+    ensures { λ r. ⌜ r ≡ marksOf q ⌝ }
 {
-    if book::get(book, AMOUNTS, i) < book::get(book, SETTLEDS, i) {
+    if q.amount < q.settled {
         return false;
     }
-    if 1 < book::get(book, PAIR_PARTIALS, i) {
+    if 1 < q.partial {
         return false;
     }
-    if 1 < book::get(book, CANCELS, i) {
+    if 1 < q.cancel {
         return false;
     }
-    book::get(book, ENDS, i) <= 1
+    q.end <= 1
 }
 
-fn are_sound_fields(book: &[u8], i: usize) -> bool
-    requires { ⌜ (length (now book) ≡ bookLength) × (i < 256) ⌝ }
-    ensures { λ r. ⌜ r ≡ soundFields (state (now (book .entry))) i ⌝ }
+fn are_sound_fields(book: &[u8], q: Request, days: &[u64; 16]) -> bool
+    requires { ⌜ (length (now book) ≡ bookLength) × Reads (state (now book)) q × OpenDays (now days) ⌝ }
+    ensures { λ r. ⌜ r ≡ soundFields (state (now (book .entry))) (q .row) ⌝ }
 {
-    if book::get(book, NEXT_NUMBER, 0) <= book::get(book, NUMBERS, i) {
+    let next = book::get(book, NEXT_NUMBER, 0);
+    let parties = sound_setup::are_sound_parties(book, q.giver, q.taker);
+    let kind = is_sound_kind(book, q, days);
+    let settles = sound_setup::is_known_open(days, q.settlement);
+    let marks = are_sound_marks(q);
+    if next <= q.number {
         return false;
     }
-    if 1 < book::get(book, SIDES, i) {
+    if 1 < q.side {
         return false;
     }
-    if !sound_setup::are_sound_parties(
-        book,
-        book::get(book, GIVERS, i),
-        book::get(book, TAKERS, i),
-    ) {
+    if !parties {
         return false;
     }
-    if !is_sound_kind(book, i) {
+    if !kind {
         return false;
     }
-    if !calendar::is_open(book::get(book, SETTLEMENTS, i)) {
+    if !settles {
         return false;
     }
-    are_sound_marks(book, i)
+    marks
 }
 
 // Is one of two sides 0 and the other 1?
@@ -150,41 +209,65 @@ fn are_opposite(a: u64, b: u64) -> bool
     false
 }
 
+// The six fields that a pair has in common, from the giver to the closing.
+fn are_terms_alike(book: &[u8], q: Request, j: usize) -> bool
+    requires { ⌜ (length (now book) ≡ bookLength) × Reads (state (now book)) q × (j < 256) ⌝ }
+    ensures { λ r. ⌜ r ≡ alike (state (now (book .entry))) 6 givers (q .row) j ⌝ }
+{
+    let giver = book::get(book, GIVERS, j);
+    let taker = book::get(book, TAKERS, j);
+    let object = book::get(book, OBJECTS, j);
+    let amount = book::get(book, AMOUNTS, j);
+    let settlement = book::get(book, SETTLEMENTS, j);
+    let closing = book::get(book, CLOSINGS, j);
+    let key = (q.giver ^ giver) | (q.taker ^ taker) | (q.object ^ object);
+    let all = key | (q.amount ^ amount) | (q.settlement ^ settlement) | (q.closing ^ closing);
+    all == 0
+}
+
+// The marks of two rows that are paired.
+fn are_marks_alike(book: &[u8], q: Request, j: usize) -> bool
+    requires { ⌜ (length (now book) ≡ bookLength) × Reads (state (now book)) q × (j < 256) ⌝ }
+    ensures { λ r. ⌜ r ≡ marksAlike (state (now (book .entry))) (q .row) j ⌝ }
+{
+    let settled = book::get(book, SETTLEDS, j);
+    let end = book::get(book, ENDS, j);
+    let partial = book::get(book, PAIR_PARTIALS, j);
+    if q.settled != settled {
+        return false;
+    }
+    if q.end != end {
+        return false;
+    }
+    q.partial == partial
+}
+
 // Two rows that are paired: they name each other, their sides are opposite, and the rest is equal.
-fn is_sound_pair(book: &[u8], i: usize, j: usize) -> bool
-    requires { ⌜ (length (now book) ≡ bookLength) × (i < 256) ⌝ }
-    ensures { λ r. ⌜ r ≡ soundPair (state (now (book .entry))) i j ⌝ }
+fn is_sound_pair(book: &[u8], q: Request, j: usize) -> bool
+    requires { ⌜ (length (now book) ≡ bookLength) × Reads (state (now book)) q ⌝ }
+    ensures { λ r. ⌜ r ≡ soundPair (state (now (book .entry))) (q .row) j ⌝ }
 {
     if 256 <= j {
         return false;
     }
-    if book::get(book, PARTNERS, j) != i as u64 + 1 {
+    let partner = book::get(book, PARTNERS, j);
+    let kind = book::get(book, KINDS, j);
+    let opposite = are_opposite(q.side, book::get(book, SIDES, j));
+    let terms = are_terms_alike(book, q, j);
+    let marks = are_marks_alike(book, q, j);
+    if partner != q.row as u64 + 1 {
         return false;
     }
-    if !are_opposite(book::get(book, SIDES, i), book::get(book, SIDES, j)) {
+    if !opposite {
         return false;
     }
-    if book::get(book, KINDS, i) != book::get(book, KINDS, j) {
+    if q.kind != kind {
         return false;
     }
-    if !sound_setup::are_alike(book, 6, GIVERS, i, j) {
+    if !terms {
         return false;
     }
-    are_marks_alike(book, i, j)
-}
-
-// The marks of two rows that are paired.
-fn are_marks_alike(book: &[u8], i: usize, j: usize) -> bool
-    requires { ⌜ (length (now book) ≡ bookLength) × (i < 256) × (j < 256) ⌝ }
-    ensures { λ r. ⌜ r ≡ marksAlike (state (now (book .entry))) i j ⌝ }
-{
-    if book::get(book, SETTLEDS, i) != book::get(book, SETTLEDS, j) {
-        return false;
-    }
-    if book::get(book, ENDS, i) != book::get(book, ENDS, j) {
-        return false;
-    }
-    book::get(book, PAIR_PARTIALS, i) == book::get(book, PAIR_PARTIALS, j)
+    marks
 }
 
 // Is the exposure e used, with this key?
@@ -222,62 +305,208 @@ pub fn exposure_with(book: &[u8], giver: u64, taker: u64, basket: u64, closing: 
     e
 }
 
-fn is_sound_paired(book: &[u8], i: usize) -> bool
-    requires { ⌜ (length (now book) ≡ bookLength) × (i < 256) × (0 < state (now book) 26 i) ⌝ }
-    ensures { λ r. ⌜ r ≡ soundPaired (state (now (book .entry))) i ⌝ }
+// Puts a used exposure at its key's place among the hints. A hint is only where to look first, so nothing is promised.
+fn put_hint(hints: &mut [u8; 1024], book: &[u8], e: usize)
+    requires { ⌜ (length (now book) ≡ bookLength) × (e < 64) ⌝ }
 {
-    let j = (book::get(book, PARTNERS, i) - 1) as usize;
-    if !is_sound_pair(book, i, j) {
-        return false;
+    if book::get(book, USEDS, e) == 1 {
+        let place = sound_setup::key_place(
+            book::get(book, EXPOSURE_GIVERS, e),
+            book::get(book, EXPOSURE_TAKERS, e),
+            book::get(book, EXPOSURE_BASKETS, e),
+            book::get(book, EXPOSURE_CLOSINGS, e),
+        );
+        hints[place] = e as u8;
     }
-    if book::get(book, KINDS, i) == 7 {
+}
+
+fn put_hints(hints: &mut [u8; 1024], book: &[u8])
+    requires { ⌜ length (now book) ≡ bookLength ⌝ }
+{
+    let mut e: usize = 0;
+    while e < 64 {
+        put_hint(hints, book, e);
+        e += 1;
+    }
+}
+
+fn wide(x: u8) -> usize
+    ensures { λ r. ⌜ r ≡ x ⌝ }
+{
+    x as usize
+}
+
+// Is there a used exposure with this key? The hint is tried before all of them are.
+fn has_exposure(
+    book: &[u8],
+    hints: &[u8; 1024],
+    giver: u64,
+    taker: u64,
+    basket: u64,
+    closing: u64,
+) -> bool
+    requires { ⌜ length (now book) ≡ bookLength ⌝ }
+    ensures { λ r. ⌜ r ≡ ltb (exposureWith (state (now (book .entry))) giver taker basket closing) 64 ⌝ }
+{
+    let place = sound_setup::key_place(giver, taker, basket, closing);
+    let e = wide(hints[place]);
+    if e < 64 {
+        if has_key(book, giver, taker, basket, closing, e) {
+            return true;
+        }
+    }
+    exposure_with(book, giver, taker, basket, closing) < 64
+}
+
+// Is it a return, or does its FOP belong to a used exposure?
+fn does_belong(book: &[u8], hints: &[u8; 1024], q: Request) -> bool
+    requires { ⌜ (length (now book) ≡ bookLength) × Reads (state (now book)) q ⌝ }
+    ensures { λ r. ⌜ r ≡ (isReturn (state (now (book .entry))) (q .row) || ltb (exposureOfFop (state (now (book .entry))) (q .row)) 64) ⌝ }
+{
+    if q.kind == 7 {
         return true;
     }
-    exposure_with(
-        book,
-        book::get(book, GIVERS, i),
-        book::get(book, TAKERS, i),
-        book::get(book, OBJECTS, i),
-        book::get(book, CLOSINGS, i),
-    )
-        < 64
+    has_exposure(book, hints, q.giver, q.taker, q.object, q.closing)
 }
 
-fn is_sound_unpaired(book: &[u8], i: usize) -> bool
-    requires { ⌜ (length (now book) ≡ bookLength) × (i < 256) ⌝ }
-    ensures { λ r. ⌜ r ≡ soundUnpaired (state (now (book .entry))) i ⌝ }
+fn is_sound_paired(book: &[u8], hints: &[u8; 1024], q: Request) -> bool
+    requires { ⌜ (length (now book) ≡ bookLength) × Reads (state (now book)) q × (0 < q .partner) ⌝ }
+    ensures { λ r. ⌜ r ≡ soundPaired (state (now (book .entry))) (q .row) ⌝ }
 {
-    if book::get(book, SETTLEDS, i) != 0 {
+    let j = (q.partner - 1) as usize;
+    let pair = is_sound_pair(book, q, j);
+    let belongs = does_belong(book, hints, q);
+    if !pair {
         return false;
     }
-    book::get(book, PAIR_PARTIALS, i) == 0
+    belongs
 }
 
-fn is_sound_row(book: &[u8], i: usize) -> bool
-    requires { ⌜ (length (now book) ≡ bookLength) × (i < 256) ⌝ }
+fn is_sound_unpaired(q: Request) -> bool
+    ensures { λ r. ⌜ r ≡ unpairedOf q ⌝ }
+{
+    if q.settled != 0 {
+        return false;
+    }
+    q.partial == 0
+}
+
+// What a used row has besides its fields: a pair, or nothing settled.
+fn is_sound_rest(book: &[u8], hints: &[u8; 1024], q: Request) -> bool
+    requires { ⌜ (length (now book) ≡ bookLength) × Reads (state (now book)) q ⌝ }
+    ensures { λ r. ⌜ r ≡ soundRest (state (now (book .entry))) (q .row) ⌝ }
+{
+    if q.partner == 0 {
+        return is_sound_unpaired(q);
+    }
+    is_sound_paired(book, hints, q)
+}
+
+// A used row that is not the later one of a pair.
+fn is_sound_first(book: &[u8], hints: &[u8; 1024], days: &[u64; 16], i: usize) -> bool
+    requires { ⌜ (length (now book) ≡ bookLength) × (i < 256) × OpenDays (now days) × (0 < state (now book) numbers i) ⌝ }
     ensures { λ r. ⌜ r ≡ soundRow (state (now (book .entry))) i ⌝ }
 {
-    if book::get(book, NUMBERS, i) == 0 {
-        return sound_setup::is_blank(book, 14, KINDS, i);
-    }
-    if !are_sound_fields(book, i) {
+    let q = request_at(book, i);
+    let fields = are_sound_fields(book, q, days);
+    let rest = is_sound_rest(book, hints, q);
+    if !fields {
         return false;
     }
-    if book::get(book, PARTNERS, i) == 0 {
-        return is_sound_unpaired(book, i);
+    rest
+}
+
+// The later row i of a pair whose earlier row j is sound: where they name each other, all that they have in common is sound.
+fn is_sound_later(book: &[u8], i: usize, j: usize) -> bool
+    requires { ⌜ (length (now book) ≡ bookLength) × (i < 256) × (j < 256) × Later (state (now book)) i j ⌝ }
+    ensures { λ r. ⌜ r ≡ soundRow (state (now (book .entry))) i ⌝ }
+{
+    if book::get(book, PARTNERS, j) != i as u64 + 1 {
+        return false;
     }
-    is_sound_paired(book, i)
+    if book::get(book, NEXT_NUMBER, 0) <= book::get(book, NUMBERS, i) {
+        return false;
+    }
+    book::get(book, CANCELS, i) <= 1
+}
+
+// Does a row hold nothing, in the fourteen tables from the kinds on?
+fn is_blank_row(book: &[u8], i: usize) -> bool
+    requires { ⌜ (length (now book) ≡ bookLength) × (i < 256) ⌝ }
+    ensures { λ r. ⌜ r ≡ blank (state (now (book .entry))) 14 kinds i ⌝ }
+{
+    let kind = book::get(book, KINDS, i);
+    let side = book::get(book, SIDES, i);
+    let giver = book::get(book, GIVERS, i);
+    let taker = book::get(book, TAKERS, i);
+    let object = book::get(book, OBJECTS, i);
+    let amount = book::get(book, AMOUNTS, i);
+    let settlement = book::get(book, SETTLEMENTS, i);
+    let closing = book::get(book, CLOSINGS, i);
+    let reference = book::get(book, REFERENCES, i);
+    let settled = book::get(book, SETTLEDS, i);
+    let partner = book::get(book, PARTNERS, i);
+    let partial = book::get(book, PAIR_PARTIALS, i);
+    let cancel = book::get(book, CANCELS, i);
+    let end = book::get(book, ENDS, i);
+    let all = kind
+        | side
+        | giver
+        | taker
+        | object
+        | amount
+        | settlement
+        | closing
+        | reference
+        | settled
+        | partner
+        | partial
+        | cancel
+        | end;
+    all == 0
+}
+
+fn is_sound_row(book: &[u8], hints: &[u8; 1024], days: &[u64; 16], i: usize) -> bool
+    requires { ⌜ (length (now book) ≡ bookLength) × (i < 256) × OpenDays (now days) × Passed (state (now book)) i ⌝ }
+    ensures { λ r. ⌜ r ≡ soundRow (state (now (book .entry))) i ⌝ }
+{
+    let number = book::get(book, NUMBERS, i);
+    let partner = book::get(book, PARTNERS, i);
+    if number == 0 {
+        return is_blank_row(book, i);
+    }
+    if partner != 0 {
+        if partner <= i as u64 {
+            return is_sound_later(book, i, (partner - 1) as usize);
+        }
+    }
+    is_sound_first(book, hints, days, i)
+}
+
+// Puts the settlement day of a sound row among those at hand.
+fn note_settlement(days: &mut [u64; 16], book: &[u8], i: usize)
+    requires { ⌜ (length (now book) ≡ bookLength) × (i < 256) × OpenDays (now days) × (soundRow (state (now book)) i ≡ true) ⌝ }
+    ensures { λ _. ⌜ OpenDays (now (days .exit)) ⌝ }
+{
+    let day = book::get(book, SETTLEMENTS, i);
+    if day != 0 {
+        sound_setup::note_open(days, day);
+    }
 }
 
 pub fn are_sound_rows(book: &[u8]) -> bool
     requires { ⌜ length (now book) ≡ bookLength ⌝ }
     ensures { λ r. ⌜ r ≡ all (soundRow (state (now (book .entry)))) 256 0 ⌝ }
 {
+    let mut hints = [0u8; 1024];
+    put_hints(&mut hints, book);
+    let mut days = [1u64; 16];
     let mut i: usize = 0;
     while i < 256 {
-        if !is_sound_row(book, i) {
+        if !is_sound_row(book, &hints, &days, i) {
             return false;
         }
+        note_settlement(&mut days, book, i);
         i += 1;
     }
     true
@@ -307,15 +536,42 @@ fn is_distinct_number(book: &[u8], i: usize) -> bool
     true
 }
 
+// The same by the marks: a number at whose place there is none differs from all before.
+fn is_new_number(book: &[u8], marks: &[u8; 4096], i: usize) -> bool
+    requires { ⌜ (length (now book) ≡ bookLength) × (i < 256) × Marked (state (now book)) (now marks) i ⌝ }
+    ensures { λ r. ⌜ r ≡ distinctNumber (state (now (book .entry))) i ⌝ }
+{
+    let number = book::get(book, NUMBERS, i);
+    if number == 0 {
+        return true;
+    }
+    let place = (number % 4096) as usize;
+    if marks[place] == 0 {
+        return true;
+    }
+    is_distinct_number(book, i)
+}
+
+fn mark_number(marks: &mut [u8; 4096], book: &[u8], i: usize)
+    requires { ⌜ (length (now book) ≡ bookLength) × (i < 256) × Marked (state (now book)) (now marks) i ⌝ }
+    ensures { λ _. ⌜ Marked (state (now (book .entry))) (now (marks .exit)) (i + 1) ⌝ }
+{
+    let number = book::get(book, NUMBERS, i);
+    let place = (number % 4096) as usize;
+    marks[place] = 1;
+}
+
 pub fn are_distinct_numbers(book: &[u8]) -> bool
     requires { ⌜ length (now book) ≡ bookLength ⌝ }
     ensures { λ r. ⌜ r ≡ all (distinctNumber (state (now (book .entry)))) 256 0 ⌝ }
 {
+    let mut marks = [0u8; 4096];
     let mut i: usize = 0;
     while i < 256 {
-        if !is_distinct_number(book, i) {
+        if !is_new_number(book, &marks, i) {
             return false;
         }
+        mark_number(&mut marks, book, i);
         i += 1;
     }
     true

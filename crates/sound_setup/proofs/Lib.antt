@@ -1,2 +1,4 @@
+pub mod Days
+pub mod Empty
 pub mod InRows
 pub mod Ways

@@ -20,6 +20,10 @@ read-zero y e z = eq-eqb y 0 (sym e ∙ z)
 read-other : {x : ℕ} (y : ℕ) → x ≡ y → (x ≡ 0 → ⊥) → eqb y 0 ≡ false
 read-other y e n = ne-eqb y 0 (λ z. n (e ∙ z))
 
+-- a test that was made and held
+pub passed : {b t : Bool} → b ≡ t → not b ≡ false → t ≡ true
+passed {b} e f = sym e ∙ not-false b f
+
 -- a range
 module _ (low high x : ℕ) where
   pub below : x < low → false ≡ between low high x

@@ -1,4 +1,5 @@
 // Document 01's soundness sentence, of what is set up: the book's head, securities, participants, baskets, spare rows.
+ghost use mathlib.Core.Bool.{true};
 ghost use mathlib.Core.Path.{_≡_};
 ghost use Prim.Native.Nat.{_<_, _+_, _≤_};
 ghost use lib.ListN.{length};
@@ -6,7 +7,11 @@ ghost use lib.Dec.{eqb};
 ghost use Rattle.laws.specs.Search.{all};
 ghost use Rattle.book.specs.Layout.{bookLength, tableCount, rowsOf, spares};
 ghost use Rattle.book.specs.State.{state};
+ghost use Rattle.calendar.specs.Target.{openDay};
 ghost use Rattle.rules.specs.Sound.{between, openOrNone, soundHead, soundSecurity, soundProfile, soundParticipant, soundBasket, soundParties, basketNamed, same, alike, blank, isSpare};
+ghost use Rattle.sound_setup.specs.Bytes.{emptyBytes};
+ghost use Rattle.sound_setup.specs.Days.{OpenDays};
+ghost use Rattle.sound_setup.specs.Keys.{keyPlace};
 ghost use Rattle.sound_setup.specs.Rows.{InRows};
 use book::layout::AGES;
 use book::layout::HAIRCUTS;
@@ -18,7 +23,6 @@ use book::layout::NEXT_NUMBER;
 use book::layout::PARTIALS;
 use book::layout::PRICES;
 use book::layout::QUOTES;
-use book::layout::SPARES;
 use book::layout::TODAY;
 use book::layout::TOLERANCE;
 use book::layout::WAITING_LISTS;
@@ -43,6 +47,49 @@ pub fn is_open_or_none(day: u64) -> bool
         return true;
     }
     calendar::is_open(day)
+}
+
+// Is a day open? Some open days are at hand, each at its number modulo 16: most days of a book are one of a few.
+pub fn is_known_open(days: &[u64; 16], day: u64) -> bool
+    requires { ⌜ OpenDays (now days) ⌝ }
+    ensures { λ r. ⌜ r ≡ openDay day ⌝ }
+{
+    let place = (day % 16) as usize;
+    if days[place] == day {
+        return true;
+    }
+    calendar::is_open(day)
+}
+
+// Puts an open day among those at hand.
+pub fn note_open(days: &mut [u64; 16], day: u64)
+    requires { ⌜ OpenDays (now days) × (openDay day ≡ true) ⌝ }
+    ensures { λ _. ⌜ OpenDays (now (days .exit)) ⌝ }
+{
+    let place = (day % 16) as usize;
+    days[place] = day;
+}
+
+// Are all of some bytes 0? There is no way out on the way, so that the compiler takes sixteen bytes at a time.
+pub fn are_empty(bytes: &[u8]) -> bool
+    ensures { λ r. ⌜ r ≡ emptyBytes (now (bytes .entry)) ⌝ }
+{
+    let mut seen: u8 = 0;
+    let mut k: usize = 0;
+    while k < bytes.len() {
+        seen = seen | bytes[k];
+        k += 1;
+    }
+    seen == 0
+}
+
+// A place for the key of an exposure among 1,024: keys that share one cost time, and change no answer.
+pub fn key_place(giver: u64, taker: u64, basket: u64, closing: u64) -> usize
+    ensures { λ r. ⌜ (r ≡ keyPlace giver taker basket closing) × (r < 1024) ⌝ }
+{
+    let parties = giver % 4294967296 * 40503001 + taker % 4294967296 * 73856093;
+    let rest = basket % 4294967296 * 19349663 + closing % 4294967296 * 83492791;
+    ((parties + rest) / 1048576 % 1024) as usize
 }
 
 // Do two rows of a table hold the same?
@@ -105,8 +152,8 @@ pub fn is_sound_head(book: &[u8]) -> bool
     is_between(1, 1000000000, book::get(book, NEXT_NUMBER, 0))
 }
 
-fn is_sound_security(book: &[u8], i: usize) -> bool
-    requires { ⌜ (length (now book) ≡ bookLength) × (i < 64) ⌝ }
+fn is_sound_security(book: &[u8], i: usize, days: &[u64; 16]) -> bool
+    requires { ⌜ (length (now book) ≡ bookLength) × (i < 64) × OpenDays (now days) ⌝ }
     ensures { λ r. ⌜ r ≡ soundSecurity (state (now (book .entry))) i ⌝ }
 {
     let lot = book::get(book, LOTS, i);
@@ -131,18 +178,31 @@ fn is_sound_security(book: &[u8], i: usize) -> bool
     if 9999 < haircut {
         return false;
     }
-    calendar::is_open(quote)
+    is_known_open(days, quote)
+}
+
+// Puts the quote day of a sound security among those at hand.
+fn note_quote(days: &mut [u64; 16], book: &[u8], i: usize)
+    requires { ⌜ (length (now book) ≡ bookLength) × (i < 64) × OpenDays (now days) × (soundSecurity (state (now book)) i ≡ true) ⌝ }
+    ensures { λ _. ⌜ OpenDays (now (days .exit)) ⌝ }
+{
+    let quote = book::get(book, QUOTES, i);
+    if book::get(book, LOTS, i) != 0 {
+        note_open(days, quote);
+    }
 }
 
 pub fn are_sound_securities(book: &[u8]) -> bool
     requires { ⌜ length (now book) ≡ bookLength ⌝ }
     ensures { λ r. ⌜ r ≡ all (soundSecurity (state (now (book .entry)))) 64 0 ⌝ }
 {
+    let mut days = [1u64; 16];
     let mut i: usize = 0;
     while i < 64 {
-        if !is_sound_security(book, i) {
+        if !is_sound_security(book, i, &days) {
             return false;
         }
+        note_quote(&mut days, book, i);
         i += 1;
     }
     true
@@ -228,19 +288,14 @@ pub fn are_sound_baskets(book: &[u8]) -> bool
     true
 }
 
-// The spare rows hold nothing.
+// The spare rows hold nothing: they are the book's last bytes.
 pub fn are_sound_spares(book: &[u8]) -> bool
     requires { ⌜ length (now book) ≡ bookLength ⌝ }
     ensures { λ r. ⌜ r ≡ all (isSpare (state (now (book .entry)))) 589 0 ⌝ }
 {
-    let mut k: usize = 0;
-    while k < 589 {
-        if !is_zero(book, SPARES, k) {
-            return false;
-        }
-        k += 1;
-    }
-    true
+    let start: usize = 46796;
+    let end: usize = 49152;
+    are_empty(&book[start..end])
 }
 
 // Are a giver and a taker set up, and not the same?

@@ -1,53 +1,43 @@
--- `sound_exposures::are_sound_positions_of` meets its contract: those below `i` passed.
+-- `sound_exposures::are_sound_positions_of` meets its contract.
 -- Assumes nothing.
-use Prim.Native.Nat.{ℕ, _-_, _≤_}
-use mathlib.Core.Path.{refl}
-use native.Mathlib.Omega.{arith}
-use Rattle.laws.specs.Search.{all}
-use Rattle.laws.proofs.Least.{Rest, loop-fails, loop-passes, loop-ends}
-use Rattle.book.specs.State.{state}
-use Rattle.rules.specs.Sound.{soundPosition}
+use Rattle.sound_exposures.proofs.Ways.{by-unused, by-nothing}
 use borrow.Author.Needs.{needs}
 use Rattle.sound_exposures.proofs.are_sound_positions_of.Statement.{statement}
 use Rattle.sound_exposures.proofs.are_sound_positions_of.Tie as tie
 
-abbrev Inv-loop : tie.InvT-loop
-Inv-loop book e i₀ i = (i ≤ 64) × Rest (soundPosition (state book) e) 64 i (all (soundPosition (state book) e) 64 0)
+get-requires : tie.Need-get-requires
+get-requires c κs = search needs
 
-abbrev μ-loop : tie.MeasureT-loop
-μ-loop book e i₀ i = 64 - i
+get-requires-2 : tie.Need-get-requires-2
+get-requires-2 c κs = search needs
 
-loop-holds : tie.Need-loop-holds Inv-loop μ-loop
-loop-holds c = (omega arith, record { decides = refl })
+has-no-position-requires : tie.Need-has-no-position-requires
+has-no-position-requires c κs = search needs
 
-is-sound-position-requires : tie.Need-is-sound-position-requires Inv-loop μ-loop
-is-sound-position-requires c κs = search needs
+returns : tie.Need-returns
+returns c = search by-unused
 
-returns : tie.Need-returns Inv-loop μ-loop
-returns c = search loop-fails
+has-no-position-requires-2 : tie.Need-has-no-position-requires-2
+has-no-position-requires-2 c κs = search needs
 
-add-i : tie.Need-add-i Inv-loop μ-loop
-add-i c = search needs
+returns-2 : tie.Need-returns-2
+returns-2 c = search by-nothing
 
-loop-less : tie.Need-loop-less Inv-loop μ-loop
-loop-less c = search needs
+are-whole-lots-requires : tie.Need-are-whole-lots-requires
+are-whole-lots-requires c κs = search needs
 
-loop-again : tie.Need-loop-again Inv-loop μ-loop
-loop-again c = (omega arith, search loop-passes)
-
-returns-2 : tie.Need-returns-2 Inv-loop μ-loop
-returns-2 c = search loop-ends
+returns-3 : tie.Need-returns-3
+returns-3 c = search needs
 
 pub are-sound-positions-of-spec : {M : Type 1} → statement M
 are-sound-positions-of-spec =
     tie.close
     (tie.spec
-    Inv-loop
-    μ-loop
-    loop-holds
-    is-sound-position-requires
+    get-requires
+    get-requires-2
+    has-no-position-requires
     returns
-    add-i
-    loop-less
-    loop-again
-    returns-2)
+    has-no-position-requires-2
+    returns-2
+    are-whole-lots-requires
+    returns-3)

@@ -1,6 +1,6 @@
 -- `sound_exposures::is_sound_position` meets its contract.
 -- Assumes nothing.
-use Rattle.sound_exposures.proofs.Ways.{no-position, in-unused, in-nothing, of-unset, by-lots}
+use Rattle.sound_exposures.proofs.Ways.{no-position, of-unset, by-lots}
 use borrow.Author.Needs.{needs}
 use Rattle.sound_exposures.proofs.is_sound_position.Statement.{statement}
 use Rattle.sound_exposures.proofs.is_sound_position.Tie as tie
@@ -21,39 +21,15 @@ get-requires-2 : tie.Need-get-requires-2
 get-requires-2 c κs = search needs
 
 returns-2 : tie.Need-returns-2
-returns-2 c = search in-unused
-
-get-requires-3 : tie.Need-get-requires-3
-get-requires-3 c κs = search needs
-
-returns-3 : tie.Need-returns-3
-returns-3 c = search in-nothing
-
-get-requires-4 : tie.Need-get-requires-4
-get-requires-4 c κs = search needs
-
-returns-4 : tie.Need-returns-4
-returns-4 c = search of-unset
+returns-2 c = search of-unset
 
 rem-result : tie.Need-rem-result
 rem-result c = search needs
 
-returns-5 : tie.Need-returns-5
-returns-5 c = search by-lots
+returns-3 : tie.Need-returns-3
+returns-3 c = search by-lots
 
 pub is-sound-position-spec : {M : Type 1} → statement M
 is-sound-position-spec =
     tie.close
-    (tie.spec
-    mul-get
-    add-get
-    get-requires
-    returns
-    get-requires-2
-    returns-2
-    get-requires-3
-    returns-3
-    get-requires-4
-    returns-4
-    rem-result
-    returns-5)
+    (tie.spec mul-get add-get get-requires returns get-requires-2 returns-2 rem-result returns-3)

@@ -11,37 +11,18 @@ get-requires c κs = search needs
 get-requires-2 : tie.Need-get-requires-2
 get-requires-2 c κs = search needs
 
-returns : tie.Need-returns
-returns c = search other-settled
-
 get-requires-3 : tie.Need-get-requires-3
 get-requires-3 c κs = search needs
 
-get-requires-4 : tie.Need-get-requires-4
-get-requires-4 c κs = search needs
+returns : tie.Need-returns
+returns c = search other-settled
 
 returns-2 : tie.Need-returns-2
 returns-2 c = search other-end
-
-get-requires-5 : tie.Need-get-requires-5
-get-requires-5 c κs = search needs
-
-get-requires-6 : tie.Need-get-requires-6
-get-requires-6 c κs = search needs
 
 returns-3 : tie.Need-returns-3
 returns-3 c = search by-partial
 
 pub are-marks-alike-spec : {M : Type 1} → statement M
 are-marks-alike-spec =
-    tie.close
-    (tie.spec
-    get-requires
-    get-requires-2
-    returns
-    get-requires-3
-    get-requires-4
-    returns-2
-    get-requires-5
-    get-requires-6
-    returns-3)
+    tie.close (tie.spec get-requires get-requires-2 get-requires-3 returns returns-2 returns-3)

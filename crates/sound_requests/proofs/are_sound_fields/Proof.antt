@@ -8,47 +8,32 @@ use Rattle.sound_requests.proofs.are_sound_fields.Tie as tie
 get-requires : tie.Need-get-requires
 get-requires c κs = search needs
 
-get-requires-2 : tie.Need-get-requires-2
-get-requires-2 c κs = search needs
-
-returns : tie.Need-returns
-returns c = search late-number
-
-get-requires-3 : tie.Need-get-requires-3
-get-requires-3 c κs = search needs
-
-returns-2 : tie.Need-returns-2
-returns-2 c = search bad-side
-
-get-requires-4 : tie.Need-get-requires-4
-get-requires-4 c κs = search needs
-
-get-requires-5 : tie.Need-get-requires-5
-get-requires-5 c κs = search needs
-
 are-sound-parties-requires : tie.Need-are-sound-parties-requires
 are-sound-parties-requires c κs = search needs
-
-returns-3 : tie.Need-returns-3
-returns-3 c = search bad-parties
 
 is-sound-kind-requires : tie.Need-is-sound-kind-requires
 is-sound-kind-requires c κs = search needs
 
-returns-4 : tie.Need-returns-4
-returns-4 c = search bad-kind
-
-get-requires-6 : tie.Need-get-requires-6
-get-requires-6 c κs = search needs
-
-is-open-requires : tie.Need-is-open-requires
-is-open-requires c κs = search needs
-
-returns-5 : tie.Need-returns-5
-returns-5 c = search bad-settlement
+is-known-open-requires : tie.Need-is-known-open-requires
+is-known-open-requires c κs = search needs
 
 are-sound-marks-requires : tie.Need-are-sound-marks-requires
 are-sound-marks-requires c κs = search needs
+
+returns : tie.Need-returns
+returns c = search late-number
+
+returns-2 : tie.Need-returns-2
+returns-2 c = search bad-side
+
+returns-3 : tie.Need-returns-3
+returns-3 c = search bad-parties
+
+returns-4 : tie.Need-returns-4
+returns-4 c = search bad-kind
+
+returns-5 : tie.Need-returns-5
+returns-5 c = search bad-settlement
 
 returns-6 : tie.Need-returns-6
 returns-6 c = search by-marks
@@ -58,18 +43,13 @@ are-sound-fields-spec =
     tie.close
     (tie.spec
     get-requires
-    get-requires-2
-    returns
-    get-requires-3
-    returns-2
-    get-requires-4
-    get-requires-5
     are-sound-parties-requires
-    returns-3
     is-sound-kind-requires
-    returns-4
-    get-requires-6
-    is-open-requires
-    returns-5
+    is-known-open-requires
     are-sound-marks-requires
+    returns
+    returns-2
+    returns-3
+    returns-4
+    returns-5
     returns-6)

@@ -5,32 +5,23 @@ use borrow.Author.Needs.{needs}
 use Rattle.sound_requests.proofs.does_return_name.Statement.{statement}
 use Rattle.sound_requests.proofs.does_return_name.Tie as tie
 
-get-requires : tie.Need-get-requires
-get-requires c κs = search needs
-
 returns : tie.Need-returns
 returns c = search names-none
 
-get-requires-2 : tie.Need-get-requires-2
-get-requires-2 c κs = search needs
+get-requires : tie.Need-get-requires
+get-requires c κs = search needs
 
 returns-2 : tie.Need-returns-2
 returns-2 c = search names-unused
 
-get-requires-3 : tie.Need-get-requires-3
-get-requires-3 c κs = search needs
-
-get-requires-4 : tie.Need-get-requires-4
-get-requires-4 c κs = search needs
+get-requires-2 : tie.Need-get-requires-2
+get-requires-2 c κs = search needs
 
 returns-3 : tie.Need-returns-3
 returns-3 c = search names-other
 
-get-requires-5 : tie.Need-get-requires-5
-get-requires-5 c κs = search needs
-
-get-requires-6 : tie.Need-get-requires-6
-get-requires-6 c κs = search needs
+get-requires-3 : tie.Need-get-requires-3
+get-requires-3 c κs = search needs
 
 returns-4 : tie.Need-returns-4
 returns-4 c = search by-taker
@@ -38,14 +29,4 @@ returns-4 c = search by-taker
 pub does-return-name-spec : {M : Type 1} → statement M
 does-return-name-spec =
     tie.close
-    (tie.spec
-    get-requires
-    returns
-    get-requires-2
-    returns-2
-    get-requires-3
-    get-requires-4
-    returns-3
-    get-requires-5
-    get-requires-6
-    returns-4)
+    (tie.spec returns get-requires returns-2 get-requires-2 returns-3 get-requires-3 returns-4)

@@ -5,32 +5,23 @@ use borrow.Author.Needs.{needs}
 use Rattle.sound_requests.proofs.is_sound_fop.Statement.{statement}
 use Rattle.sound_requests.proofs.is_sound_fop.Tie as tie
 
-get-requires : tie.Need-get-requires
-get-requires c κs = search needs
-
 is-basket-named-requires : tie.Need-is-basket-named-requires
 is-basket-named-requires c κs = search needs
 
-returns : tie.Need-returns
-returns c = search fop-basket
-
-get-requires-2 : tie.Need-get-requires-2
-get-requires-2 c κs = search needs
-
-get-requires-3 : tie.Need-get-requires-3
-get-requires-3 c κs = search needs
+get-requires : tie.Need-get-requires
+get-requires c κs = search needs
 
 is-between-requires : tie.Need-is-between-requires
 is-between-requires c κs = search needs
 
+is-known-or-none-requires : tie.Need-is-known-or-none-requires
+is-known-or-none-requires c κs = search needs
+
+returns : tie.Need-returns
+returns c = search fop-basket
+
 returns-2 : tie.Need-returns-2
 returns-2 c = search fop-amount
-
-get-requires-4 : tie.Need-get-requires-4
-get-requires-4 c κs = search needs
-
-is-open-or-none-requires : tie.Need-is-open-or-none-requires
-is-open-or-none-requires c κs = search needs
 
 returns-3 : tie.Need-returns-3
 returns-3 c = search by-closing
@@ -39,13 +30,10 @@ pub is-sound-fop-spec : {M : Type 1} → statement M
 is-sound-fop-spec =
     tie.close
     (tie.spec
-    get-requires
     is-basket-named-requires
-    returns
-    get-requires-2
-    get-requires-3
+    get-requires
     is-between-requires
+    is-known-or-none-requires
+    returns
     returns-2
-    get-requires-4
-    is-open-or-none-requires
     returns-3)

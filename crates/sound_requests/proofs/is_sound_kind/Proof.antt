@@ -5,9 +5,6 @@ use borrow.Author.Needs.{needs}
 use Rattle.sound_requests.proofs.is_sound_kind.Statement.{statement}
 use Rattle.sound_requests.proofs.is_sound_kind.Tie as tie
 
-get-requires : tie.Need-get-requires
-get-requires c κs = search needs
-
 is-sound-fop-requires : tie.Need-is-sound-fop-requires
 is-sound-fop-requires c κs = search needs
 
@@ -25,11 +22,4 @@ returns-3 c = search no-kind
 
 pub is-sound-kind-spec : {M : Type 1} → statement M
 is-sound-kind-spec =
-    tie.close
-    (tie.spec
-    get-requires
-    is-sound-fop-requires
-    returns
-    is-sound-return-requires
-    returns-2
-    returns-3)
+    tie.close (tie.spec is-sound-fop-requires returns is-sound-return-requires returns-2 returns-3)

@@ -8,32 +8,18 @@ use Rattle.sound_requests.proofs.is_sound_return.Tie as tie
 does-return-name-requires : tie.Need-does-return-name-requires
 does-return-name-requires c κs = search needs
 
-returns : tie.Need-returns
-returns c = search return-exposure
-
-get-requires : tie.Need-get-requires
-get-requires c κs = search needs
-
 is-between-requires : tie.Need-is-between-requires
 is-between-requires c κs = search needs
 
+returns : tie.Need-returns
+returns c = search return-exposure
+
 returns-2 : tie.Need-returns-2
 returns-2 c = search return-amount
-
-get-requires-2 : tie.Need-get-requires-2
-get-requires-2 c κs = search needs
 
 returns-3 : tie.Need-returns-3
 returns-3 c = search by-no-closing
 
 pub is-sound-return-spec : {M : Type 1} → statement M
 is-sound-return-spec =
-    tie.close
-    (tie.spec
-    does-return-name-requires
-    returns
-    get-requires
-    is-between-requires
-    returns-2
-    get-requires-2
-    returns-3)
+    tie.close (tie.spec does-return-name-requires is-between-requires returns returns-2 returns-3)

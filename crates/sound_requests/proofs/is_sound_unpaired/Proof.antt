@@ -1,21 +1,14 @@
 -- `sound_requests::is_sound_unpaired` meets its contract.
 -- Assumes nothing.
 use Rattle.sound_requests.proofs.Ways.{some-settled, by-no-partial}
-use borrow.Author.Needs.{needs}
 use Rattle.sound_requests.proofs.is_sound_unpaired.Statement.{statement}
 use Rattle.sound_requests.proofs.is_sound_unpaired.Tie as tie
 
-get-requires : tie.Need-get-requires
-get-requires c κs = search needs
-
 returns : tie.Need-returns
 returns c = search some-settled
-
-get-requires-2 : tie.Need-get-requires-2
-get-requires-2 c κs = search needs
 
 returns-2 : tie.Need-returns-2
 returns-2 c = search by-no-partial
 
 pub is-sound-unpaired-spec : {M : Type 1} → statement M
-is-sound-unpaired-spec = tie.close (tie.spec get-requires returns get-requires-2 returns-2)
+is-sound-unpaired-spec = tie.close (tie.spec returns returns-2)

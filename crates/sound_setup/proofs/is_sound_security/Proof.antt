@@ -38,8 +38,8 @@ returns-5 c = search wide-price
 returns-6 : tie.Need-returns-6
 returns-6 c = search large-haircut
 
-is-open-requires : tie.Need-is-open-requires
-is-open-requires c κs = search needs
+is-known-open-requires : tie.Need-is-known-open-requires
+is-known-open-requires c κs = search needs
 
 returns-7 : tie.Need-returns-7
 returns-7 c = search by-quote
@@ -59,5 +59,5 @@ is-sound-security-spec =
     is-between-requires
     returns-5
     returns-6
-    is-open-requires
+    is-known-open-requires
     returns-7)

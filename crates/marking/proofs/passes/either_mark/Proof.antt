@@ -1,7 +1,6 @@
 -- `marking::passes::either_mark` meets its contract.
 -- Assumes nothing.
 use Rattle.marking.proofs.Counts.{first-none, first-some}
-use borrow.Author.Needs.{needs}
 use Rattle.marking.proofs.passes.either_mark.Statement.{statement}
 use Rattle.marking.proofs.passes.either_mark.Tie as tie
 

@@ -1,7 +1,7 @@
 -- `marking::recalls::account_after` meets its contract.
 -- Assumes nothing.
 use native.Mathlib.Omega.{arith}
-use Rattle.marking.proofs.Accepting.{ranges-of, giver-in, account-small}
+use Rattle.marking.proofs.Accepting.{ranges-of, exposure-in, security-in, giver-in, account-small}
 use borrow.Author.Needs.{needs}
 use Rattle.marking.proofs.recalls.account_after.Statement.{statement}
 use Rattle.marking.proofs.recalls.account_after.Tie as tie
@@ -10,7 +10,7 @@ element-copy-out-get : tie.Need-element-copy-out-get
 element-copy-out-get c = search needs
 
 get-requires : tie.Need-get-requires
-get-requires c κs = (c .before .before .pre .long, omega arith, omega (arith, ranges-of (c .before .before .pre) .exposure))
+get-requires c κs = (c .before .before .pre .long, omega arith, exposure-in (c .before .before .pre))
 
 mul-row-at : tie.Need-mul-row-at
 mul-row-at c = omega (arith, giver-in (c .before .before .before .pre) (c .get .ensures))
@@ -22,10 +22,10 @@ element-copy-out-i : tie.Need-element-copy-out-i
 element-copy-out-i c = search needs
 
 mul-account : tie.Need-mul-account
-mul-account c = omega (arith, ranges-of (c .before .before .before .before .before .pre) .security)
+mul-account c = omega (arith, security-in (c .before .before .before .before .before .pre))
 
 array-read-account : tie.Need-array-read-account
-array-read-account c = omega (arith, ranges-of (c .before .before .before .before .before .pre) .security)
+array-read-account c = omega (arith, security-in (c .before .before .before .before .before .pre))
 
 element-copy-out-account : tie.Need-element-copy-out-account
 element-copy-out-account c = search needs
@@ -34,10 +34,10 @@ add-account : tie.Need-add-account
 add-account c = omega (arith, account-small (c .before .before .before .before .before .before .pre) (c .before .before .before .get .ensures) (c .before .before .row-at .ensures), ranges-of (c .before .before .before .before .before .before .pre) .nominal-high)
 
 mul-account-2 : tie.Need-mul-account-2
-mul-account-2 c = omega (arith, ranges-of (c .before .before .before .before .before .before .pre) .security)
+mul-account-2 c = omega (arith, security-in (c .before .before .before .before .before .before .pre))
 
 array-write-account : tie.Need-array-write-account
-array-write-account c = omega (arith, ranges-of (c .before .before .before .before .before .before .pre) .security)
+array-write-account c = omega (arith, security-in (c .before .before .before .before .before .before .pre))
 
 returns : tie.Need-returns
 returns c = rw (c .before .before .row-at .ensures, c .before .before .before .get .ensures)

@@ -2,7 +2,8 @@
 -- Assumes nothing.
 use native.Mathlib.Omega.{arith}
 use Rattle.book.specs.State.{state}
-use Rattle.marking.proofs.Accepting.{ranges-of, tolerance-in, old-within, bounded-in, accepted-above, accepted-else}
+use Rattle.marking.proofs.Accepting.{exposure-in, marking-of, tolerance-in, accepted-above, accepted-else}
+use Rattle.marking.proofs.Ways.{bounded, row-within}
 use borrow.Author.Needs.{needs}
 use Rattle.marking.proofs.recalls.is_accepted.Statement.{statement}
 use Rattle.marking.proofs.recalls.is_accepted.Tie as tie
@@ -17,7 +18,7 @@ element-copy-out-e : tie.Need-element-copy-out-e
 element-copy-out-e c = search needs
 
 get-requires : tie.Need-get-requires
-get-requires c κs = (c .before .before .before .before .before .pre .long, omega arith, omega (arith, ranges-of (c .before .before .before .before .before .pre) .exposure))
+get-requires c κs = (c .before .before .before .before .before .pre .long, omega arith, exposure-in (c .before .before .before .before .before .pre))
 
 get-requires-2 : tie.Need-get-requires-2
 get-requires-2 c κs = search needs
@@ -31,13 +32,16 @@ returns c =
     accepted-above (state (s .args .book .now)) (s .args .fields .now) (c .before .before .before .before .value-after .ensures .0) (c .before .before .get .ensures) (c .before .get2 .ensures) (c .if1 .taken)
 
 mul-row-at : tie.Need-mul-row-at
-mul-row-at c = omega (arith, ranges-of (c .before .before .before .before .before .before .before .before .pre) .exposure)
+mul-row-at c = omega (arith, exposure-in (c .before .before .before .before .before .before .before .before .pre))
 
 row-at-requires : tie.Need-row-at-requires
-row-at-requires c κs = (c .before .before .before .before .before .before .before .before .pre .long, omega arith, omega (arith, ranges-of (c .before .before .before .before .before .before .before .before .pre) .exposure))
+row-at-requires c κs = (c .before .before .before .before .before .before .before .before .pre .long, omega arith, omega (arith, exposure-in (c .before .before .before .before .before .before .before .before .pre)))
 
 worth-of-requires : tie.Need-worth-of-requires
-worth-of-requires c κs = (bounded-in (c .before .before .before .before .before .before .before .before .before .before .before .pre) (c .before .before .before .before .before .before .before .before .before .columns .ensures), old-within (c .before .before .before .before .before .before .before .before .before .before .before .pre) (c .before .before .row-at .ensures))
+worth-of-requires c κs =
+    let k = c .before .before .before .before .before .before .before .before .before .before .before .pre in
+    let m = marking-of k (c .before .before .before .before .before .before .before .before .before .columns .ensures) in
+    (bounded m, row-within m (exposure-in k) (c .before .before .row-at .ensures))
 
 returns-2 : tie.Need-returns-2
 returns-2 c =

@@ -1,7 +1,9 @@
 -- `marking::recalls::substitutes` meets its contract.
 -- Assumes nothing.
+use mathlib.Core.Path.{refl}
 use native.Mathlib.Omega.{arith}
-use Rattle.marking.proofs.Accepting.{ranges-of, basket-in, bounded-in, quoted-in, today-in, oldest-in, left-within, after-within, substitutes-found}
+use Rattle.marking.proofs.Accepting.{exposure-in, marking-of, left-within, after-within, substitutes-found}
+use Rattle.marking.proofs.Ways.{bounded, quoted, today-within, basket-below, oldest-le}
 use borrow.Author.Needs.{needs}
 use Rattle.marking.proofs.recalls.substitutes.Statement.{statement}
 use Rattle.marking.proofs.recalls.substitutes.Tie as tie
@@ -15,10 +17,10 @@ position-left-requires c κs = search needs
 worth-of-requires : tie.Need-worth-of-requires
 worth-of-requires c κs =
     let k = c .before .before .before .before .pre in
-    (bounded-in (k .0) (k .1), left-within (k .0) (λ i. c .before .before .before .shared-slice-known .given i .fits) (c .before .position-left .ensures))
+    (bounded (marking-of (k .0) (k .1)), left-within (k .0) (λ i. c .before .before .before .shared-slice-known .given i .fits) (c .before .position-left .ensures))
 
 get-requires : tie.Need-get-requires
-get-requires c κs = (c .before .before .before .before .before .pre .0 .long, omega arith, omega (arith, ranges-of (c .before .before .before .before .before .pre .0) .exposure))
+get-requires c κs = (c .before .before .before .before .before .pre .0 .long, omega arith, exposure-in (c .before .before .before .before .before .pre .0))
 
 missing-from-requires : tie.Need-missing-from-requires
 missing-from-requires c κs = search needs
@@ -27,7 +29,9 @@ account-after-requires : tie.Need-account-after-requires
 account-after-requires c κs = search needs
 
 basket-of-requires : tie.Need-basket-of-requires
-basket-of-requires c κs = (c .before .before .before .before .before .before .before .before .pre .0 .long, omega (arith, ranges-of (c .before .before .before .before .before .before .before .before .pre .0) .exposure), basket-in (c .before .before .before .before .before .before .before .before .pre .0))
+basket-of-requires c κs =
+    let k = c .before .before .before .before .before .before .before .before .pre in
+    (k .0 .long, exposure-in (k .0), basket-below (marking-of (k .0) (k .1)) (exposure-in (k .0)) refl (k .0 .recallable .used))
 
 get-requires-2 : tie.Need-get-requires-2
 get-requires-2 c κs = search needs
@@ -37,11 +41,12 @@ element-copy-out-pick c = search needs
 
 pick-requires : tie.Need-pick-requires
 pick-requires c κs =
-    let k = c .before .before .before .before .before .before .before .before .before .before .before .before .pre in (
-      oldest-in (k .0) (c .before .before .before .basket-of .ensures),
-      today-in (k .0) (c .before .before .get2 .ensures),
-      bounded-in (k .0) (k .1),
-      quoted-in (k .0) (k .1),
+    let k = c .before .before .before .before .before .before .before .before .before .before .before .before .pre in
+    let m = marking-of (k .0) (k .1) in (
+      oldest-le m (exposure-in (k .0)) refl (k .0 .recallable .used) (c .before .before .before .basket-of .ensures),
+      today-within m (c .before .before .get2 .ensures),
+      bounded m,
+      quoted m,
       after-within (k .0) (λ i. c .before .before .before .before .before .before .before .before .before .before .before .shared-slice-known .given i .fits) (c .before .before .before .before .account-after .ensures),
     )
 

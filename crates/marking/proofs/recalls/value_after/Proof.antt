@@ -1,6 +1,7 @@
 -- `marking::recalls::value_after` meets its contract.
 -- Assumes nothing.
-use Rattle.marking.proofs.Accepting.{bounded-in, sum-within, value-found, worth-le}
+use Rattle.marking.proofs.Accepting.{marking-of, sum-within, value-found, worth-le}
+use Rattle.marking.proofs.Ways.{bounded}
 use Rattle.securities.specs.Position.{Within, nominalsOf}
 use borrow.Author.Needs.{needs}
 use Rattle.marking.proofs.recalls.value_after.Statement.{statement}
@@ -20,13 +21,13 @@ new-within : (c : tie.After-position) → Within (nominalsOf (c .before .add-nom
 new-within c = rw (c .before .add-nominals .ensures) (sum-within (c .before .before .before .before .before .before .before .before .pre .0) (λ i. c .before .before .before .before .before .before .before .shared-slice-known .given i .fits) (c .before .before .before .before .before .before .position-left .ensures) (c .before .before .before .before .before .substitutes .ensures))
 
 worth-of-requires : tie.Need-worth-of-requires
-worth-of-requires c κs = (bounded-in (c .before .before .before .before .before .before .before .before .pre .0) (c .before .before .before .before .before .before .before .before .pre .1), new-within c)
+worth-of-requires c κs = (bounded (marking-of (c .before .before .before .before .before .before .before .before .pre .0) (c .before .before .before .before .before .before .before .before .pre .1)), new-within c)
 
 returns : tie.Need-returns
 returns c =
     let k = c .before .before .before .before .before .before .before .before .before .pre in (
       value-found (k .0) (k .1) (c .before .before .before .before .before .before .before .position-left .ensures) (c .before .before .before .before .before .before .substitutes .ensures) (c .before .before .add-nominals .ensures) (c .worth-of .ensures),
-      worth-le (c .before .before .before .before .before .before .before .before .before .args .columns .now) (c .before .before .add-nominals .result) (bounded-in (k .0) (k .1)) (new-within (c .before)) (c .worth-of .ensures),
+      worth-le (c .before .before .before .before .before .before .before .before .before .args .columns .now) (c .before .before .add-nominals .result) (bounded (marking-of (k .0) (k .1))) (new-within (c .before)) (c .worth-of .ensures),
     )
 
 pub value-after-spec : {M : Type 1} → statement M

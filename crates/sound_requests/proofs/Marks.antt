@@ -1,0 +1,129 @@
+-- Numbers by their marks, exposures by their hints, and several numbers of a row in one.
+-- Assumes nothing.
+use mathlib.Core.Path.{_≡_, refl, sym, ap, _∙_}
+use mathlib.Core.Bool.{Bool, true, false, not, or-true}
+use mathlib.Core.List.{List}
+use mathlib.Core.Logic.{⊎-elim}
+use Prim.Native.Nat.{ℕ, zero, suc, _+_, _%_, _≤_, _<_}
+use native.Mathlib.Nat.{mod-lt}
+use native.Mathlib.Decide.{ℕ-discrete}
+use native.Mathlib.Omega.{arith}
+use lib.Bits.{bitOr, bitXor, or-zero-l, xor-add-and, xor-self, and-le-l, and-le-r}
+use lib.Dec.{eqb, ltb}
+use lib.ListN.{length, getD, set, length-set, replicate, length-replicate}
+use lib.Seq.{getD-set-same, getD-set-other}
+use borrow.Author.Tests.{eq-eqb, ne-eqb, eqb-true, lt-ltb}
+use Rattle.laws.specs.Search.{all, least}
+use Rattle.laws.proofs.Cases.{either, clash}
+use Rattle.laws.proofs.Least.{all-at, all-same, least-hit, least-miss}
+use Rattle.book.specs.Layout.{numbers, kinds, givers, takers, objects, amounts, settlements, closings}
+use Rattle.book.specs.State.{State}
+use Rattle.rules.specs.Requests.{hasKey, exposureWith}
+use Rattle.rules.specs.Sound.{same, alike, blank, differs, distinctNumber}
+use Rattle.facts.proofs.Facts.{all-of}
+use Rattle.sound_setup.proofs.Empty.{agree, or-left, or-right}
+use Rattle.sound_requests.specs.Rows.{Reads, Marked}
+use Rattle.sound_requests.specs.declared.Request as declared
+
+-- a number at whose place there is no mark differs from all before; and one more mark
+module _ (s : State) (marks : List ℕ) (i : ℕ) (m : Marked s marks i) {n : ℕ} (nq : n ≡ s numbers i) where
+  other : getD marks (n % 4096) 0 ≡ 0 → (j : ℕ) → j < i → differs s i j ≡ true
+  other z j l = rw (ne-eqb (s numbers i) (s numbers j) (λ e.
+      let same : n ≡ s numbers j = nq ∙ e in
+      let mark : getD marks (n % 4096) 0 ≡ 1 = rw same (m .each j l) in
+      omega arith))
+
+  pub not-marked : getD marks (n % 4096) 0 ≡ 0 → true ≡ distinctNumber s i
+  not-marked z = sym (rw (all-of (differs s i) i 0 (λ j a l. other z j (omega arith)), or-true))
+
+  pub marked-next : Marked s (set marks (n % 4096) 1) (i + 1)
+  marked-next =
+      let inside : n % 4096 < length marks = omega (arith, m .long) in
+      record {
+        long = simp length-set (m .long);
+        each = λ j l. elim (ℕ-discrete (s numbers j % 4096) (n % 4096)) [
+          | yes q ↦ rw (q, getD-set-same marks (n % 4096) 1 0 inside)
+          | no q ↦ getD-set-other marks (n % 4096) (s numbers j % 4096) 1 0 q ∙ m .each j (before j l q)
+        ];
+      }
+    where
+      before : (j : ℕ) → j < i + 1 → (s numbers j % 4096 ≡ n % 4096 → ⊥) → j < i
+      before j l q = elim (ℕ-discrete j i) [
+        | yes e ↦ absurd (q (rw (e, nq)))
+        | no e ↦ omega arith
+      ]
+
+pub marked-none : (s : State) → Marked s (replicate 4096 0) 0
+marked-none s = record { long = length-replicate {A = ℕ} 4096 0; each = λ j l. absurd (omega arith) }
+
+-- a test that holds at a number finds one that is no higher
+least-found : (t : ℕ → Bool) (n i j : ℕ) → t j ≡ true → i ≤ j → j < i + n → least t n i ≤ j
+least-found t zero i j h a b = absurd (omega arith)
+least-found t (suc n) i j h a b =
+    ⊎-elim
+    (λ p. omega (arith, least-hit t n i p))
+    (λ p. elim (ℕ-discrete i j) [
+      | yes q ↦ absurd (clash-at q p)
+      | no q ↦ omega (arith, least-miss t n i p, least-found t n (suc i) j h (omega arith) (omega arith))
+    ])
+    (either (t i))
+  where
+    clash-at : i ≡ j → t i ≡ false → ⊥
+    clash-at q p = clash {A = ⊥} h (rw (← q) p)
+
+module _ (s : State) (giver taker basket closing : ℕ) where
+  pub by-hint : {e : ℕ} {b : Bool} → e < 64 → b ≡ hasKey s giver taker basket closing e → b ≡ true → true ≡ ltb (exposureWith s giver taker basket closing) 64
+  by-hint {e} l q h = sym (lt-ltb (exposureWith s giver taker basket closing) 64 (omega (arith, least-found (hasKey s giver taker basket closing) 64 0 e (sym q ∙ h) (omega arith) (omega arith))))
+
+  pub by-search : {e : ℕ} → e ≡ exposureWith s giver taker basket closing → ltb e 64 ≡ ltb (exposureWith s giver taker basket closing) 64
+  by-search q = rw q
+
+-- the rows i of the tables from one to n more, in one number: it is 0 where each is
+abbrev together : State → ℕ → ℕ → ℕ → ℕ
+together s i from zero = s from i
+together s i from (suc n) = bitOr (together s i from n) (s (from + suc n) i)
+
+module _ (s : State) (i from : ℕ) where
+  each-none : (n : ℕ) → together s i from n ≡ 0 → (f : ℕ) → from ≤ f → f ≤ from + n → s f i ≡ 0
+  each-none zero h f a b = let e : f ≡ from = omega arith in rw e h
+  each-none (suc n) h f a b = elim (ℕ-discrete f (from + suc n)) [
+    | yes q ↦ rw q (or-right (together s i from n) (s (from + suc n) i) h)
+    | no q ↦ each-none n (or-left (together s i from n) (s (from + suc n) i) h) f a (omega arith)
+  ]
+
+  none-each : (n : ℕ) → ((f : ℕ) → from ≤ f → f ≤ from + n → s f i ≡ 0) → together s i from n ≡ 0
+  none-each zero h = h from (omega arith) (omega arith)
+  none-each (suc n) h = rw (none-each n (λ f a b. h f a (omega arith)), or-zero-l) (h (from + suc n) (omega arith) (omega arith))
+
+  together-blank : (n : ℕ) → eqb (together s i from n) 0 ≡ blank s (suc n) from i
+  together-blank n =
+      let t : ℕ → Bool = λ f. eqb (s f i) 0 in
+      agree
+      (λ p. all-of t (suc n) from (λ f a b. eq-eqb (s f i) 0 (each-none n (eqb-true (together s i from n) 0 p) f a (omega arith))))
+      (λ p. eq-eqb (together s i from n) 0 (none-each n (λ f a b. eqb-true (s f i) 0 (all-at t (suc n) from p f a (omega arith)))))
+
+both : {a b c d : ℕ} → a ≡ c → b ≡ d → bitOr a b ≡ bitOr c d
+both p e = rw (p, e)
+
+bits : {a b c d : ℕ} → a ≡ c → b ≡ d → bitXor a b ≡ bitXor c d
+bits p e = rw (p, e)
+
+pub by-together : (s : State) (i : ℕ) {k d g t o a y c r z p l x e : ℕ} → k ≡ s 16 i → d ≡ s 17 i → g ≡ s 18 i → t ≡ s 19 i → o ≡ s 20 i → a ≡ s 21 i → y ≡ s 22 i → c ≡ s 23 i → r ≡ s 24 i → z ≡ s 25 i → p ≡ s 26 i → l ≡ s 27 i → x ≡ s 28 i → e ≡ s 29 i
+    → eqb (bitOr (bitOr (bitOr (bitOr (bitOr (bitOr (bitOr (bitOr (bitOr (bitOr (bitOr (bitOr (bitOr k d) g) t) o) a) y) c) r) z) p) l) x) e) 0 ≡ blank s 14 kinds i
+by-together s i kq dq gq tq oq aq yq cq rq zq pq lq xq eq =
+    ap (λ (x : ℕ). eqb x 0) (both (both (both (both (both (both (both (both (both (both (both (both (both kq dq) gq) tq) oq) aq) yq) cq) rq) zq) pq) lq) xq) eq)
+    ∙ together-blank s i kinds 13
+
+-- two numbers are equal where they have no bit that differs
+same-bits : (x y : ℕ) → eqb (bitXor x y) 0 ≡ eqb x y
+same-bits x y = agree
+    (λ p. eq-eqb x y (omega (arith, eqb-true (bitXor x y) 0 p, xor-add-and x y, and-le-l x y, and-le-r x y)))
+    (λ p. rw (eqb-true x y p, xor-self))
+
+pub by-terms : (s : State) (q : declared.Request) (j : ℕ) {g t o a d c : ℕ} → Reads s q → g ≡ s givers j → t ≡ s takers j → o ≡ s objects j → a ≡ s amounts j → d ≡ s settlements j → c ≡ s closings j
+    → eqb (bitOr (bitOr (bitOr (bitOr (bitOr (bitXor (q .giver) g) (bitXor (q .taker) t)) (bitXor (q .object) o)) (bitXor (q .amount) a)) (bitXor (q .settlement) d)) (bitXor (q .closing) c)) 0 ≡ alike s 6 givers (q .row) j
+by-terms s q j r gq tq oq aq dq cq =
+    let u : State = λ f i. bitXor (s f (q .row)) (s f j) in
+    ap (λ (x : ℕ). eqb x 0) (both (both (both (both (both (bits (r .giver) gq) (bits (r .taker) tq)) (bits (r .object) oq)) (bits (r .amount) aq)) (bits (r .settlement) dq)) (bits (r .closing) cq))
+    ∙ together-blank u 0 givers 5
+    ∙ all-same (λ f. eqb (u f 0) 0) (λ f. same s f (q .row) j) 6 givers (λ f a l. same-bits (s f (q .row)) (s f j))

@@ -1,0 +1,18 @@
+-- `sound_setup::note_open` meets its contract.
+-- Assumes nothing.
+use Rattle.sound_setup.proofs.Days.{day-noted}
+use borrow.Author.Needs.{needs}
+use Rattle.sound_setup.proofs.note_open.Statement.{statement}
+use Rattle.sound_setup.proofs.note_open.Tie as tie
+
+mul-days : tie.Need-mul-days
+mul-days c = search needs
+
+element-write-days : tie.Need-element-write-days
+element-write-days c = search needs
+
+returns : tie.Need-returns
+returns c = search day-noted
+
+pub note-open-spec : {M : Type 1} → statement M
+note-open-spec = tie.close (tie.spec mul-days element-write-days returns)
