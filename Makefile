@@ -3,10 +3,10 @@ LIBRARIES = calendar valuation baskets picking records reads engine
 
 .PHONY: run test bench bench-page libraries clean
 
-# Proves the program and what it uses, and runs it.
+# Proves the program and what it uses, and runs it on document 01's example.
 run:
 	rt check desk
-	target/bin/desk
+	target/bin/desk < crates/desk/stdin
 
 # The gate: tests, layout, proofs, must-fail edits.
 test:

@@ -23,7 +23,7 @@ pub struct Reading {
 }
 
 // The bytes of a record of a kind, its kind's byte included: each length is proved to be that of the kind's fields.
-fn length_of(k: usize) -> usize
+pub fn length_of(k: usize) -> usize
     requires { ⌜ k < 13 ⌝ }
     ensures { λ r. ⌜ r ≡ lengthOf k ⌝ }
 {

@@ -1,0 +1,45 @@
+-- What each way out of the functions that cut the input into records shows.
+-- Assumes nothing.
+use mathlib.Core.Path.{_≡_, refl, ap}
+use mathlib.Core.Bool.{true}
+use mathlib.Core.List.{List, [], _∷_}
+use Prim.Native.Nat.{ℕ, _≤_, _<_}
+use native.Mathlib.Omega.{arith}
+use lib.Dec.{ltb}
+use lib.ListN.{length, getD}
+use borrow.Author.Tests.{lt-ltb, le-ltb, le-leb, lt-leb}
+use Rattle.records.specs.Kinds.{lengthOf}
+use Rattle.desk.specs.Cuts.{recordLength, firstRecord, isAwaited}
+
+pub known-length : (k : ℕ) {n : ℕ} → k < 13 → n ≡ lengthOf k → n ≡ recordLength k
+unfolding recordLength
+known-length k h e = rw (lt-ltb k 13 h) e
+
+pub unknown-length : (k : ℕ) → 13 ≤ k → 0 ≡ recordLength k
+unfolding recordLength
+unknown-length k h = rw (le-ltb k 13 h)
+
+pub no-record : (b : List ℕ) → length b ≡ 0 → 0 ≡ firstRecord b
+unfolding firstRecord
+no-record [] h = refl
+no-record (k ∷ b) h = omega arith
+
+pub whole-record : (b : List ℕ) {n : ℕ} → n ≡ recordLength (getD b 0 0) → n ≤ length b → n ≡ firstRecord b
+unfolding firstRecord
+whole-record [] e h = omega arith
+whole-record (k ∷ b) e h = rw (le-leb (recordLength k) (length (k ∷ b)) (omega arith)) e
+
+pub cut-record : (b : List ℕ) {n : ℕ} → n ≡ recordLength (getD b 0 0) → length b < n → 0 ≡ firstRecord b
+unfolding firstRecord
+cut-record [] e h = refl
+cut-record (k ∷ b) e h = rw (lt-leb (recordLength k) (length (k ∷ b)) (omega arith))
+
+pub none-awaited : (b : List ℕ) → length b ≡ 0 → true ≡ isAwaited b
+unfolding isAwaited
+none-awaited [] h = refl
+none-awaited (k ∷ b) h = absurd (omega arith)
+
+pub kind-awaited : (b : List ℕ) {n : ℕ} → n ≡ recordLength (getD b 0 0) → (length b ≡ 0 → ⊥) → ltb 0 n ≡ isAwaited b
+unfolding isAwaited
+kind-awaited [] e h = absurd (h refl)
+kind-awaited (k ∷ b) e h = ap (ltb 0) e
