@@ -4,7 +4,7 @@ LIBRARIES = calendar valuation baskets picking records
 # The operator's tool: its sources and the libraries it is linked with.
 STATICLIB = target/staticlib
 TOOL_SOURCES = $(wildcard tools/*.c)
-TOOL_LIBRARIES = $(foreach name,records,$(STATICLIB)/lib$(name).a)
+TOOL_LIBRARIES = $(foreach name,calendar valuation baskets records reads engine,$(STATICLIB)/lib$(name).a)
 CFLAGS = -O2 -g
 
 .PHONY: run test bench libraries tool test-tool clean

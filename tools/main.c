@@ -13,6 +13,10 @@ static const char help[] =
     "\n"
     "  encode   a text of records, one a line, to records\n"
     "  decode   records to text\n"
+    "  load     apply records to a book kept in a file, with its journal\n"
+    "  show     a book's participants, securities, baskets, requests, exposures\n"
+    "  pairs    why each request was paired with that one, from the journal\n"
+    "  audit    replay the journal and compare every answer and the book\n"
     "\n"
     "'yordzepa COMMAND --help' tells more. Status: 0 done, 1 audit found a difference, 2 wrong\n"
     "command line, 3 wrong input, 4 book or journal damaged, 5 a file cannot be read or written,\n"
@@ -24,8 +28,8 @@ struct command {
 };
 
 static const struct command commands[] = {
-    {"encode", encode_command},
-    {"decode", decode_command},
+    {"encode", encode_command}, {"decode", decode_command}, {"load", load_command},
+    {"show", show_command},     {"pairs", pairs_command},   {"audit", audit_command},
 };
 
 /* A broken pipe or a file that grew too large is an error of the write, not the end. */
