@@ -81,6 +81,9 @@ static size_t encode_lines(const char *name, const struct bytes *text, struct by
     const char *at = (const char *)text->data, *end = at + text->length;
     size_t wrong = 0;
 
+    /* Some editors put a mark before a text in UTF-8. */
+    if (text->length >= 3 && memcmp(at, "\xef\xbb\xbf", 3) == 0)
+        at += 3;
     for (size_t line = 1; at < end; line++) {
         const char *stop = memchr(at, '\n', (size_t)(end - at));
         size_t length = (size_t)((stop ? stop : end) - at);

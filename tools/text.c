@@ -60,9 +60,10 @@ static int take_text(struct reading *reading, const char *line, size_t length)
         return wrong(reading->fault, "kind", "the line has %zu characters; %d are the most",
                      end - start, LINE_ROOM - 1);
     for (size_t place = start; place < end; place++)
-        if ((unsigned char)line[place] < ' ' && !is_space(line[place]))
-            return wrong(reading->fault, "kind",
-                         "the line has a control character; is this a text of records?");
+        if ((line[place] < ' ' || line[place] > '~') && !is_space(line[place]))
+            return wrong(reading->fault, "kind", "character %zu of the line is byte 0x%02x, which "
+                         "only a comment may have; is this a text of records?", place + 1,
+                         (unsigned char)line[place]);
     memcpy(reading->text, line + start, end - start);
     reading->text[end - start] = '\0';
     reading->rest = reading->text;
