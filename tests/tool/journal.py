@@ -34,7 +34,6 @@ class Entry:
         (self.place, self.before, self.after, self.type, length, room, self.code, self.a, self.b,
          self.m, self.sum, self.check, self.chain) = struct.unpack(">QIIBB30sQQQQQ8s32s", data)
         self.record = room[:length]
-        assert room[length:] == bytes(30 - length)
 
     def line(self):
         return "%d %d %d %d %d %d\n" % (self.place, self.record[0], self.code, self.a, self.b,
@@ -50,33 +49,37 @@ class Entry:
         return body + self.chain
 
 
-def entries(data):
-    """The entries of a journal's bytes, each tested as docs/TOOL.md says."""
-    assert len(data) % ENTRY == 0 and data[:ENTRY] == HEADER
-    chain, found, left = sha(HEADER), [], 0
-    for start in range(ENTRY, len(data), ENTRY):
+def walk(data):
+    """The entries of a journal's bytes up to the first that is not as docs/TOOL.md says."""
+    assert data[:ENTRY] == HEADER
+    chain, before, left = sha(HEADER), 0, 0
+    for start in range(ENTRY, len(data) - ENTRY + 1, ENTRY):
         part = data[start:start + ENTRY]
         entry = Entry(part)
-        assert entry.place == start // ENTRY
-        assert part[88:96] == sha(part[:88])[:8]
-        assert entry.chain == sha(chain + part[:96])
-        assert left == 0 and entry.before == 0 or entry.after == left - 1
-        assert entry.before == 0 or entry.before == found[-1].before + 1
-        left, chain = entry.after, entry.chain
-        found.append(entry)
-    assert left == 0
+        if (entry.place != start // ENTRY or part[88:96] != sha(part[:88])[:8] or
+                entry.chain != sha(chain + part[:96]) or entry.before != before or
+                (before and entry.after != left - 1)):
+            return
+        before, left, chain = (entry.before + 1 if entry.after else 0), entry.after, entry.chain
+        yield entry
+
+
+def entries(data):
+    """All entries of a journal's bytes, which are whole batches."""
+    found = list(walk(data))
+    assert len(data) == (len(found) + 1) * ENTRY
+    assert not found or found[-1].after == 0
     return found
 
 
 def whole_entries(data):
     """The entries of the whole batches, of a journal that a crash may have cut."""
-    length = len(data) // ENTRY * ENTRY
-    while length > ENTRY:
-        try:
-            return entries(data[:length])
-        except (AssertionError, struct.error):
-            length -= ENTRY
-    return []
+    if len(data) < ENTRY or data[:ENTRY] != HEADER:
+        return []
+    found = list(walk(data))
+    while found and found[-1].after:
+        found.pop()
+    return found
 
 
 def written(found):
