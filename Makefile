@@ -5,6 +5,7 @@ LIBRARIES = calendar valuation baskets picking records
 STATICLIB = target/staticlib
 TOOL_SOURCES = $(wildcard tools/*.c)
 TOOL_LIBRARIES = $(foreach name,calendar valuation baskets records reads engine,$(STATICLIB)/lib$(name).a)
+TOOL = build/yordzepa
 CFLAGS = -O2 -g
 
 .PHONY: run test bench libraries tool test-tool clean
@@ -23,10 +24,10 @@ libraries:
 	for name in $(LIBRARIES); do rt staticlib $$name >/dev/null || exit 1; done
 
 # The operator's tool: build/yordzepa. docs/TOOL.md tells how it is used.
-tool: build/yordzepa
+tool: $(TOOL)
 
-build/yordzepa: $(TOOL_SOURCES) $(wildcard tools/*.h) include/yordzepa.h $(TOOL_LIBRARIES)
-	mkdir -p build
+$(TOOL): $(TOOL_SOURCES) $(wildcard tools/*.h) include/yordzepa.h $(TOOL_LIBRARIES)
+	mkdir -p $(dir $@)
 	$(CC) -std=c11 -Wall -Wextra -Werror $(CFLAGS) -Iinclude -Itools $(TOOL_SOURCES) $(TOOL_LIBRARIES) -o $@
 
 # A library that is not there yet.

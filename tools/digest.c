@@ -56,21 +56,33 @@ static void spread(const uint8_t *block, uint32_t words[64])
 
 static void take_block(uint32_t state[8], const uint8_t *block)
 {
-    uint32_t words[64], s[8];
+    uint32_t words[64];
+    uint32_t a = state[0], b = state[1], c = state[2], d = state[3];
+    uint32_t e = state[4], f = state[5], g = state[6], h = state[7];
 
     spread(block, words);
-    memcpy(s, state, sizeof s);
     for (size_t place = 0; place < 64; place++) {
-        uint32_t first = s[7] + (turned(s[4], 6) ^ turned(s[4], 11) ^ turned(s[4], 25)) +
-                         ((s[4] & s[5]) ^ (~s[4] & s[6])) + round_numbers[place] + words[place];
-        uint32_t second = (turned(s[0], 2) ^ turned(s[0], 13) ^ turned(s[0], 22)) +
-                          ((s[0] & s[1]) ^ (s[0] & s[2]) ^ (s[1] & s[2]));
-        memmove(s + 1, s, 7 * sizeof *s);
-        s[4] += first;
-        s[0] = first + second;
+        uint32_t first = h + (turned(e, 6) ^ turned(e, 11) ^ turned(e, 25)) +
+                         ((e & f) ^ (~e & g)) + round_numbers[place] + words[place];
+        uint32_t second = (turned(a, 2) ^ turned(a, 13) ^ turned(a, 22)) +
+                          ((a & b) ^ (a & c) ^ (b & c));
+        h = g;
+        g = f;
+        f = e;
+        e = d + first;
+        d = c;
+        c = b;
+        b = a;
+        a = first + second;
     }
-    for (size_t place = 0; place < 8; place++)
-        state[place] += s[place];
+    state[0] += a;
+    state[1] += b;
+    state[2] += c;
+    state[3] += d;
+    state[4] += e;
+    state[5] += f;
+    state[6] += g;
+    state[7] += h;
 }
 
 /* A message that comes in parts. */
@@ -128,21 +140,31 @@ void digest(const void *first, size_t first_length, const void *second, size_t s
 static const uint64_t spreader = UINT64_C(0x9e3779b97f4a7c15);
 
 /* For each sum a permutation of the words, and for each word one of the sums. */
-static uint64_t stirred(uint64_t sum, uint64_t word)
+static inline uint64_t stirred(uint64_t sum, uint64_t word)
 {
     sum = (sum ^ word) * spreader;
     return sum << 29 | sum >> 35;
 }
 
+/* The next word, in a form that becomes one instruction. */
+static inline uint64_t word_at(const uint8_t *bytes)
+{
+    return (uint64_t)bytes[0] << 56 | (uint64_t)bytes[1] << 48 | (uint64_t)bytes[2] << 40 |
+           (uint64_t)bytes[3] << 32 | (uint64_t)bytes[4] << 24 | (uint64_t)bytes[5] << 16 |
+           (uint64_t)bytes[6] << 8 | bytes[7];
+}
+
 /* Four sums side by side, so that the processor need not wait for each product. */
 uint64_t book_sum(const uint8_t *book)
 {
-    uint64_t sums[4] = {1, 2, 3, 4}, all = 0;
+    uint64_t first = 1, second = 2, third = 3, fourth = 4, all;
 
-    for (size_t at = 0; at < YORDZEPA_BOOK; at += 32)
-        for (size_t lane = 0; lane < 4; lane++)
-            sums[lane] = stirred(sums[lane], load_number(book + at + 8 * lane, 8));
-    for (size_t lane = 0; lane < 4; lane++)
-        all = stirred(all, sums[lane]);
+    for (size_t at = 0; at < YORDZEPA_BOOK; at += 32) {
+        first = stirred(first, word_at(book + at));
+        second = stirred(second, word_at(book + at + 8));
+        third = stirred(third, word_at(book + at + 16));
+        fourth = stirred(fourth, word_at(book + at + 24));
+    }
+    all = stirred(stirred(stirred(stirred(0, first), second), third), fourth);
     return stirred(all ^ all >> 32, 0);
 }
