@@ -94,5 +94,9 @@ int decode_command(int count, char **words)
     const struct usage usage = {help, choices, 0, 1};
     int status = read_words(&usage, &count, words);
 
-    return status != GO_ON ? status : decode_file(count ? words[0] : NULL, output, by_names);
+    if (status != GO_ON)
+        return status;
+    if (refuse_terminal(count ? words[0] : NULL))
+        return USAGE;
+    return decode_file(count ? words[0] : NULL, output, by_names);
 }

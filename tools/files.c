@@ -2,7 +2,7 @@
  * Files: read whole, written whole, replaced whole or not at all.
  */
 #define _DEFAULT_SOURCE
-#define _POSIX_C_SOURCE 200809L
+#define _XOPEN_SOURCE 700
 #include "files.h"
 
 #include <errno.h>
@@ -46,6 +46,14 @@ int open_input(const char *path)
     if (file < 0)
         complain_of_file("open", input_name(path));
     return file;
+}
+
+int refuse_terminal(const char *path)
+{
+    if (!is_standard_input(path) || !isatty(STDIN_FILENO))
+        return 0;
+    complain("records are no text to be typed; name a file, or send them by a pipe");
+    return 1;
 }
 
 int read_input(const char *path, struct bytes *bytes)
@@ -158,13 +166,42 @@ int replace_file(const char *path, const void *bytes, size_t length)
     return status;
 }
 
+static int write_to(int file, const char *name, const struct bytes *bytes)
+{
+    if (write_fully(file, bytes->data, bytes->length) == 0)
+        return DONE;
+    complain("cannot write to %s: %s; what was written is not whole", name, strerror(errno));
+    return SYSTEM;
+}
+
+/* A device or a pipe, which must not be replaced by a file. */
+static int write_special(const char *path, const struct bytes *bytes)
+{
+    int file = open(path, O_WRONLY | O_CLOEXEC);
+    int status;
+
+    if (file < 0) {
+        complain_of_file("write", path);
+        return SYSTEM;
+    }
+    status = write_to(file, path, bytes);
+    close(file);
+    return status;
+}
+
 int write_output(const char *path, const struct bytes *bytes)
 {
-    if (path)
-        return replace_file(path, bytes->data, bytes->length);
-    if (write_fully(STDOUT_FILENO, bytes->data, bytes->length) == 0)
-        return DONE;
-    complain("cannot write to standard output: %s; what was written is not whole",
-             strerror(errno));
-    return SYSTEM;
+    struct stat facts;
+    char *real;
+    int status;
+
+    if (!path)
+        return write_to(STDOUT_FILENO, "standard output", bytes);
+    if (stat(path, &facts) == 0 && !S_ISREG(facts.st_mode))
+        return write_special(path, bytes);
+    /* Through a link the file that it leads to is replaced, not the link. */
+    real = realpath(path, NULL);
+    status = replace_file(real ? real : path, bytes->data, bytes->length);
+    free(real);
+    return status;
 }

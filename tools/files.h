@@ -22,6 +22,9 @@ const char *input_name(const char *path);
 /* Opens to read. -1 with a message if it cannot be. */
 int open_input(const char *path);
 
+/* 1, with a message, where an input of records would be typed on a terminal. */
+int refuse_terminal(const char *path);
+
 /* Reads all of an input. The status is DONE, or SYSTEM with a message. */
 int read_input(const char *path, struct bytes *bytes);
 
@@ -40,7 +43,10 @@ int replace_file(const char *path, const void *bytes, size_t length);
 /* Flushes the folder that a file stands in, so that its name outlasts a crash. 0 or -1. */
 int flush_folder(const char *path);
 
-/* Writes bytes to a file by its path, or to standard output where the path is NULL. */
+/*
+ * Writes bytes to a file by its path, or to standard output where the path is NULL. A plain file is
+ * replaced whole; a device or a pipe is written to.
+ */
 int write_output(const char *path, const struct bytes *bytes);
 
 #endif

@@ -6,6 +6,7 @@
 
 #include <poll.h>
 #include <string.h>
+#include <sys/select.h>
 #include <sys/stat.h>
 #include <unistd.h>
 
@@ -78,4 +79,13 @@ int has_more(const struct input *input)
     struct pollfd ready = {.fd = input->file, .events = POLLIN};
 
     return poll(&ready, 1, 0) > 0;
+}
+
+int await_more(const struct input *input, const sigset_t *held)
+{
+    fd_set files;
+
+    FD_ZERO(&files);
+    FD_SET(input->file, &files);
+    return pselect(input->file + 1, &files, NULL, NULL, NULL, held) < 0 ? -1 : 0;
 }

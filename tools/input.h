@@ -4,6 +4,7 @@
 #ifndef INPUT_H
 #define INPUT_H
 
+#include <signal.h>
 #include <stddef.h>
 #include <stdint.h>
 
@@ -47,5 +48,9 @@ int read_more(struct input *input);
 
 /* Whether read_more would not have to wait. */
 int has_more(const struct input *input);
+
+/* Waits for more with these signals held back and no others. 0, or -1 with errno set, EINTR where
+ * a signal came. */
+int await_more(const struct input *input, const sigset_t *held);
 
 #endif

@@ -11,6 +11,7 @@
 #include <string.h>
 #include <unistd.h>
 
+#include "files.h"
 #include "input.h"
 #include "options.h"
 #include "progress.h"
@@ -51,9 +52,15 @@ struct load {
     int broken;
     uint64_t accepted;
     uint64_t refused;
+    /* The signals that were held back before this load. */
+    sigset_t outside;
 };
 
 /* ---- Signals: the batch is ended, then the load ---- */
+
+static const int stop_signals[] = {SIGINT, SIGTERM, SIGHUP};
+
+enum { STOP_SIGNALS = sizeof stop_signals / sizeof *stop_signals };
 
 static volatile sig_atomic_t stopped_by;
 
@@ -62,16 +69,38 @@ static void note_signal(int number)
     stopped_by = number;
 }
 
-static void catch_signals(void)
+/*
+ * The signals wait, so that no batch is disturbed, but for the time in which input is awaited. One
+ * that the caller ignores, as nohup does, stays ignored.
+ */
+static void hold_signals(sigset_t *outside)
 {
-    static const int numbers[] = {SIGINT, SIGTERM, SIGHUP};
-    struct sigaction action;
+    struct sigaction action, old;
+    sigset_t held;
 
     memset(&action, 0, sizeof action);
     action.sa_handler = note_signal;
     sigemptyset(&action.sa_mask);
-    for (size_t place = 0; place < sizeof numbers / sizeof *numbers; place++)
-        sigaction(numbers[place], &action, NULL);
+    sigemptyset(&held);
+    for (size_t place = 0; place < STOP_SIGNALS; place++) {
+        if (sigaction(stop_signals[place], NULL, &old) == 0 && old.sa_handler == SIG_IGN)
+            continue;
+        sigaction(stop_signals[place], &action, NULL);
+        sigaddset(&held, stop_signals[place]);
+    }
+    sigprocmask(SIG_BLOCK, &held, outside);
+}
+
+/* Whether a signal has come. */
+static int is_stopped(void)
+{
+    sigset_t waiting;
+
+    if (!stopped_by && sigpending(&waiting) == 0)
+        for (size_t place = 0; place < STOP_SIGNALS; place++)
+            if (sigismember(&waiting, stop_signals[place]))
+                stopped_by = stop_signals[place];
+    return stopped_by != 0;
 }
 
 /* ---- Messages ---- */
@@ -165,17 +194,31 @@ static int end_batch(struct load *load)
     return DONE;
 }
 
-/* Reads more of the input; a batch does not wait for bytes that are not there yet. */
-static int await_input(struct load *load)
+/*
+ * Reads more of the input, which may have to be awaited. 0, or -1 with a message. After a signal
+ * nothing is read: the program before this one in a pipe may have been ended by it too, and what
+ * looks like the input's end is none.
+ */
+static int await_bytes(struct load *load)
+{
+    int result = await_more(&load->input, &load->outside);
+
+    if (result == 0 && !is_stopped())
+        result = read_more(&load->input);
+    if (result == 0 || errno == EINTR)
+        return 0;
+    complain_of_file("read", load->input.name);
+    return -1;
+}
+
+/* A batch does not wait for bytes that are not there yet. */
+static int go_on_reading(struct load *load)
 {
     int status = has_more(&load->input) ? DONE : end_batch(load);
 
-    if (status != DONE || stopped_by)
+    if (status != DONE || is_stopped())
         return status;
-    if (read_more(&load->input) == 0 || errno == EINTR)
-        return DONE;
-    complain_of_file("read", load->input.name);
-    return not_ended(load, SYSTEM);
+    return await_bytes(load) == 0 ? DONE : not_ended(load, SYSTEM);
 }
 
 static int load_records(struct load *load)
@@ -188,13 +231,15 @@ static int load_records(struct load *load)
     while (status == DONE && !stopped_by && !load->broken &&
            (front = front_of(&load->input, &bytes, &length)) != NOTHING) {
         if (front == MORE) {
-            status = await_input(load);
+            status = go_on_reading(load);
             continue;
         }
         call(load, front, bytes, length);
         take_bytes(&load->input, length);
-        if (load->count == load->most)
+        if (load->count == load->most) {
             status = end_batch(load);
+            is_stopped();
+        }
     }
     return status == DONE ? end_batch(load) : status;
 }
@@ -205,12 +250,9 @@ static int load_records(struct load *load)
 static int await_front(struct load *load, enum front *front, const uint8_t **bytes,
                        size_t *length)
 {
-    while ((*front = front_of(&load->input, bytes, length)) == MORE && !stopped_by) {
-        if (read_more(&load->input) != 0 && errno != EINTR) {
-            complain_of_file("read", load->input.name);
+    while ((*front = front_of(&load->input, bytes, length)) == MORE && !is_stopped())
+        if (await_bytes(load) != 0)
             return SYSTEM;
-        }
-    }
     return DONE;
 }
 
@@ -352,7 +394,7 @@ static int load_file(const char *book, const char *records, const uint64_t *afte
     load->most = most;
     load->batch = allocate(most * sizeof *load->batch);
     load->bytes = allocate(most * ENTRY);
-    catch_signals();
+    hold_signals(&load->outside);
     status = begin_input(&load->input, records);
     if (status == DONE) {
         status = open_store(&load->store, book, 1);
@@ -382,5 +424,7 @@ int load_command(int count, char **words)
         status = read_choice("after", after, 0, INT64_MAX / ENTRY, &place);
     if (status != GO_ON)
         return status;
+    if (refuse_terminal(count > 1 ? words[1] : NULL))
+        return USAGE;
     return load_file(words[0], count > 1 ? words[1] : NULL, after ? &place : NULL, (size_t)most);
 }

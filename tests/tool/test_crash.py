@@ -47,6 +47,7 @@ class Crash(Case):
         self.assertTrue(kept.startswith(whole), "lines were printed that the journal has not")
         if os.path.exists(self.book):
             journal.check_book(self.read(self.book), self.read(self.journal))
+        return kept.count(b"\n")
 
     def check_repeated(self):
         """The load is repeated, and all is as without a crash."""
@@ -131,12 +132,13 @@ class Kills(Crash):
         whole = time.monotonic() - begun
         self.restart()
         kills = ended = 0
+        places = set()
         while kills < KILLS:
             child = self.start()
-            time.sleep(chance.uniform(0, whole * 0.75))
+            time.sleep(chance.uniform(0, whole * chance.choice([0.4, 0.8, 1.2])))
             child.kill()
             status = child.wait()
-            self.check_files(self.read(self.path("lines")))
+            places.add(self.check_files(self.read(self.path("lines"))))
             if status == DONE:
                 ended += 1
                 self.assertEqual(self.read(self.path("lines")), self.want)
@@ -148,11 +150,13 @@ class Kills(Crash):
             if kills % 20 == 0:
                 self.assertIn(run("audit", self.book)[0], (DONE, INTERRUPTED, SYSTEM))
             # Most loads are taken up where they were killed, some from the start.
-            if chance.random() < 0.1:
+            if chance.random() < 0.2:
                 self.check_repeated()
                 self.restart()
         self.check_repeated()
-        print("\n%d kills, %d loads that ended before" % (kills, ended), end=" ")
+        print("\n%d kills, with %d different places reached, and %d loads that ended before the kill"
+              % (kills, len(places), ended), end=" ")
+        self.assertGreater(len(places), 20)
 
 
 if __name__ == "__main__":

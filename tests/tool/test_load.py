@@ -240,6 +240,31 @@ class Trouble(Case):
             self.assertEqual(self.read(self.book)[:BOOK], book[:BOOK])
             self.done("audit", self.book)
 
+    def test_signal_in_a_long_load(self):
+        """Input that never has to be awaited: the load ends after the batch."""
+        path = self.write("long.rec", b"".join(days(9000)))
+        child = subprocess.Popen([TOOL, "load", "-b", "50", self.book, path],
+                                 stdout=subprocess.PIPE, stderr=subprocess.PIPE)
+        child.stdout.readline()
+        child.terminate()
+        child.communicate()
+        self.assertEqual(child.returncode, 128 + signal.SIGTERM)
+        self.assertLess(len(journal.entries(self.read(self.journal))), 9000)
+        self.assertEqual(len(self.done("load", "--after=0", self.book, path).splitlines()), 9000)
+        self.done("audit", self.book)
+
+    def test_ignored_signal(self):
+        """Under nohup a hang-up does not end a load."""
+        child = subprocess.Popen([TOOL, "load", self.book], stdin=subprocess.PIPE,
+                                 stdout=subprocess.PIPE,
+                                 preexec_fn=lambda: signal.signal(signal.SIGHUP, signal.SIG_IGN))
+        child.stdin.write(record(0, 1, 10000))
+        child.stdin.flush()
+        child.stdout.readline()
+        child.send_signal(signal.SIGHUP)
+        self.assertEqual(child.communicate(record(9))[0], b"2 9 0 0 0 0\n")
+        self.assertEqual(child.returncode, DONE)
+
     def test_output_that_fails(self):
         """Lines that cannot be printed are printed by a repeated load."""
         records = days(500)

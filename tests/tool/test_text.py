@@ -1,11 +1,14 @@
 """encode and decode."""
 import datetime
 import os
+import pty
 import random
 import struct
+import subprocess
 import unittest
 
-from common import (BAD_INPUT, DONE, EXAMPLE, FORMS, SYSTEM, USAGE, Case, days, example, record, run)
+from common import (BAD_INPUT, DONE, EXAMPLE, SYSTEM, TOOL, USAGE, Case, days, example, record,
+                    run)
 
 NAMES = ["opening", "price", "participant", "basket", "deposit", "withdrawal", "fop", "return",
          "cancel", "settle", "mark", "recall", "next-day"]
@@ -148,6 +151,20 @@ class Encode(Case):
         self.assertEqual(os.stat(out).st_mode & 0o777, 0o640)
         self.assertEqual(os.listdir(self.folder), ["out.rec"])
 
+    def test_output_that_is_no_plain_file(self):
+        """A device is written to and not replaced; through a link its file is replaced."""
+        device = os.stat("/dev/null")
+        self.done("encode", "-o", "/dev/null", data=EXAMPLE.encode())
+        self.assertEqual(os.stat("/dev/null").st_rdev, device.st_rdev)
+        self.fails(SYSTEM, ["encode", "-o", "/dev/full"], "No space left", data=EXAMPLE.encode())
+        self.fails(SYSTEM, ["encode", "-o", self.folder], "s a directory", data=EXAMPLE.encode())
+        self.fails(SYSTEM, ["encode", "-o", self.path("none/x")], "none/x", data=EXAMPLE.encode())
+        self.write("out.rec", b"old")
+        os.symlink("out.rec", self.path("link"))
+        self.done("encode", "-o", self.path("link"), data=EXAMPLE.encode())
+        self.assertTrue(os.path.islink(self.path("link")))
+        self.assertEqual(self.read(self.path("out.rec")), b"".join(example()))
+
     def test_random_text(self):
         """No text brings it down."""
         chance = random.Random(5)
@@ -242,12 +259,24 @@ class Manners(Case):
     def test_full_output(self):
         for words in (["encode"], ["decode", "-n"], ["--help"]):
             with open("/dev/full", "wb") as full:
-                from subprocess import PIPE, run as call
-                from common import TOOL
                 data = EXAMPLE.encode() if words[0] == "encode" else b"".join(example())
-                done = call([TOOL, *words], input=data, stdout=full, stderr=PIPE)
+                done = subprocess.run([TOOL, *words], input=data, stdout=full,
+                                      stderr=subprocess.PIPE)
             self.assertEqual(done.returncode, SYSTEM)
             self.assertIn(b"No space left", done.stderr)
+
+    def test_terminal(self):
+        """Records are neither typed on a terminal nor printed to one."""
+        master, slave = pty.openpty()
+        for words, keep in ((["encode"], "stdout"), (["decode"], "stdin"),
+                            (["load", self.book], "stdin")):
+            done = subprocess.run([TOOL, *words], stderr=subprocess.PIPE,
+                                  **{"stdin": subprocess.DEVNULL, "stdout": subprocess.DEVNULL,
+                                     keep: slave})
+            self.assertEqual(done.returncode, USAGE)
+            self.assertIn(b"records are no text", done.stderr)
+        os.close(master)
+        os.close(slave)
 
     def test_dash(self):
         self.assertEqual(self.done("decode", "-", data=record(9)), b"9\n")
