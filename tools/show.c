@@ -369,12 +369,12 @@ static const struct part *part_named(const char *name)
     return NULL;
 }
 
-static void print_head(const struct store *store)
+static void print_head(const char *path, const struct store *store)
 {
     char day[DAY_TEXT];
 
     printf("%s: today is %s (day %" PRIu64 "), tolerance %" PRIu64 ", next request %" PRIu64,
-           store->book_path, day_text(number_in(store->book, TODAY, 0), day),
+           path, day_text(number_in(store->book, TODAY, 0), day),
            number_in(store->book, TODAY, 0), number_in(store->book, TOLERANCE, 0),
            number_in(store->book, NEXT_NUMBER, 0));
     if (store->journal.file >= 0)
@@ -382,10 +382,11 @@ static void print_head(const struct store *store)
     printf("\n");
 }
 
-static int show_parts(const struct store *store, int as_csv, int count, char **names)
+static int show_parts(const char *path, const struct store *store, int as_csv, int count,
+                      char **names)
 {
     if (!as_csv)
-        print_head(store);
+        print_head(path, store);
     for (int place = 0; place < (count ? count : PARTS); place++) {
         const struct part *part = count ? part_named(names[place]) : &parts[place];
         if (!as_csv)
@@ -446,7 +447,7 @@ static int show_book(const char *path, int as_csv, int count, char **names)
     if (status == DONE)
         status = check_sound(store);
     if (status == DONE)
-        status = show_parts(store, as_csv, count, names);
+        status = show_parts(path, store, as_csv, count, names);
     close_store(store);
     free(store);
     return status;

@@ -83,8 +83,9 @@ if [ "$part" != long ]; then
         CFLAGS="-O1 -g -fsanitize=address,undefined -fno-sanitize-recover=all"
     for group in test_text test_load test_reads test_damage; do
         step "$group" tests "$plain" $group.py STEP=3
-        step "$group under the sanitizers" tests "$work/checked" $group.py STEP=24
+        step "$group under the sanitizers" tests "$work/checked" $group.py STEP=48
     done
+    step "examples of docs/TOOL.md" tests "$plain" test_docs.py
     step "valgrind" under_valgrind
     step "test_speed" tests "$plain" test_speed.py
 fi
