@@ -366,24 +366,20 @@ enum step next_entry(struct walk *walk, struct entry *entry, const char **why)
     return WALKED;
 }
 
-/* An entry never straddles two sectors of a disk, so a crash leaves it whole, blank or missing. */
+/*
+ * An entry never straddles two sectors of a disk, so a crash leaves it whole, blank or missing. An
+ * entry of a later batch shows that the one before it had been flushed.
+ */
 int is_torn(const struct journal *journal, uint64_t first)
 {
-    uint64_t whole = 0, size = 0;
-
     for (uint64_t place = first; place <= journal->places; place++) {
         uint8_t bytes[ENTRY];
         struct entry entry;
         if (read_places(journal, place, 1, bytes) != 0)
             return -1;
-        if (is_blank(bytes))
-            continue;
-        if (read_entry(bytes, &entry) || entry.place != place || place - entry.before != first)
-            return 0;
-        whole++;
-        size = entry.before + 1 + entry.after;
-        if (place - first >= size)
+        if (!is_blank(bytes) && (read_entry(bytes, &entry) || entry.place != place ||
+                                 place - entry.before != first))
             return 0;
     }
-    return !size || whole < size;
+    return 1;
 }

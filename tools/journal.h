@@ -120,8 +120,8 @@ const uint8_t *walked_bytes(const struct walk *walk);
 int is_blank(const uint8_t bytes[ENTRY]);
 
 /*
- * Whether what stands from a place on is a batch that a crash cut: its entries are whole, blank or
- * missing, at least one is not whole, and nothing stands after it. 1, 0, or -1 with errno set.
+ * Whether what stands from a place on, where no whole batch stands, is one that a crash cut: its
+ * entries are whole, blank or missing, and nothing stands after it. 1, 0, or -1 with errno set.
  */
 int is_torn(const struct journal *journal, uint64_t first);
 

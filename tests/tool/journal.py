@@ -33,7 +33,7 @@ class Entry:
     def __init__(self, data):
         (self.place, self.before, self.after, self.type, length, room, self.code, self.a, self.b,
          self.m, self.sum, self.check, self.chain) = struct.unpack(">QIIBB30sQQQQQ8s32s", data)
-        self.record = room[:length]
+        self.record, self.padding = room[:length], room[length:]
 
     def line(self):
         return "%d %d %d %d %d %d\n" % (self.place, self.record[0], self.code, self.a, self.b,
@@ -42,7 +42,7 @@ class Entry:
     def bytes(self, previous):
         """The entry's bytes with check and chain made anew."""
         body = struct.pack(">QIIBB30sQQQQQ", self.place, self.before, self.after, self.type,
-                           len(self.record), self.record, self.code, self.a, self.b, self.m,
+                           len(self.record), self.record + self.padding, self.code, self.a, self.b, self.m,
                            self.sum)
         body += sha(body)[:8]
         self.chain = sha(previous + body)
@@ -58,7 +58,7 @@ def walk(data):
         entry = Entry(part)
         if (entry.place != start // ENTRY or part[88:96] != sha(part[:88])[:8] or
                 entry.chain != sha(chain + part[:96]) or entry.before != before or
-                (before and entry.after != left - 1)):
+                (before and entry.after != left - 1) or any(entry.padding)):
             return
         before, left, chain = (entry.before + 1 if entry.after else 0), entry.after, entry.chain
         yield entry

@@ -119,6 +119,7 @@ class Changed(Case):
                             (change("a", 3, 7), 7), (change("sum", 77, 4), 4),
                             (change("record", record(4, 1, 0, 100001), 6), 6),
                             (change("record", record(2, 1, 1, 0, 1), 3), 3),
+                            (change("padding", b"x", 5), 5),
                             (change("type", 2, 5), 5), (change("before", 2, 5), 5),
                             (change("after", 2, 5), 5), (change("place", 2, 5), 5)):
             self.put(self.journal, data)
@@ -231,6 +232,10 @@ class Crashes(Case):
         data = bytearray(self.whole[:ENTRY * 221])
         data[190 * ENTRY + 20] ^= 4
         data[200 * ENTRY:201 * ENTRY] = bytes(ENTRY)
+        cases.append((bytes(data), 190))
+        data = bytearray(self.whole[:ENTRY * 221])
+        data[190 * ENTRY:191 * ENTRY] = bytes(ENTRY)
+        data[200 * ENTRY + 20] ^= 4
         cases.append((bytes(data), 190))
         for data, place in cases:
             self.restore(data)

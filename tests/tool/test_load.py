@@ -319,7 +319,8 @@ class Trouble(Case):
             self.assertEqual(done.returncode, SYSTEM, size)
             self.assertIn(b"File too large", done.stderr)
             self.assertTrue(want.startswith(done.stdout))
-            kept = journal.whole_entries(self.read(self.journal))
+            # What was written of the batch that failed is taken back at once.
+            kept = journal.entries(self.read(self.journal)) if size >= ENTRY else []
             self.assertEqual("".join(entry.line() for entry in kept).encode(), done.stdout)
             self.check_recovery(data, want, book)
 
