@@ -22,31 +22,38 @@ static const char help[] =
     "  -n, --names         names for kinds and fields, and dates for days\n"
     "  -o, --output=FILE   write to FILE, which is replaced whole, and not to standard output\n";
 
+/* Says which field the reader refuses in a record of the right length. */
+static void name_field(const char *name, size_t place, size_t at, const uint8_t *bytes)
+{
+    const struct kind *kind = &kinds[*bytes];
+    struct record record = plain_fields(bytes);
+    size_t field = field_out_of_range(&record);
+    char range[LINE_ROOM];
+
+    if (field == kind->count)
+        complain("%s record %zu (%s), at byte %zu: the reader refuses it; nothing was written",
+                 name, place, kind->name, at);
+    else
+        complain("%s record %zu (%s), at byte %zu, field %s: %" PRIu64 " is out of range; it may "
+                 "be %.60s; nothing was written", name, place, kind->name, at,
+                 kind->fields[field].name, record.fields[field],
+                 range_text(&kind->fields[field], range));
+}
+
 /* Says why the reader refuses a record; always BAD_INPUT. */
 static int name_record(const char *name, size_t place, size_t at, const uint8_t *bytes,
                        size_t left)
 {
     size_t length = record_length(bytes);
-    struct record record;
-    char range[LINE_ROOM];
-    size_t field;
 
-    if (!length) {
+    if (!length)
         complain("%s record %zu, at byte %zu: %u is no kind; nothing was written", name, place, at,
                  *bytes);
-        return BAD_INPUT;
-    }
-    if (left < length) {
+    else if (left < length)
         complain("%s record %zu (%s), at byte %zu: cut after %zu of its %zu bytes; nothing was "
                  "written", name, place, kinds[*bytes].name, at, left, length);
-        return BAD_INPUT;
-    }
-    record = plain_fields(bytes);
-    field = field_out_of_range(&record);
-    complain("%s record %zu (%s), at byte %zu, field %s: %" PRIu64 " is out of range; it may be "
-             "%.60s; nothing was written", name, place, kinds[*bytes].name, at,
-             kinds[*bytes].fields[field].name, record.fields[field],
-             range_text(&kinds[*bytes].fields[field], range));
+    else
+        name_field(name, place, at, bytes);
     return BAD_INPUT;
 }
 

@@ -37,6 +37,18 @@ tests() {
     env "$@" YORDZEPA="$binary" PYTHONDONTWRITEBYTECODE=1 python3 -m unittest discover -s tests/tool -p "$file"
 }
 
+# One file of tests with the plain binary and with the checked one, at the same time.
+both() {
+    tests "$plain" "$1" STEP=3 >"$work/plain" 2>&1 &
+    first=$!
+    tests "$work/checked" "$1" STEP=48 >"$work/sanitized" 2>&1 &
+    second=$!
+    result=0
+    wait $first || { cat "$work/plain"; result=1; }
+    wait $second || { cat "$work/sanitized"; result=1; }
+    return $result
+}
+
 # The commands once under valgrind: no error, no leak.
 under_valgrind() {
     check="valgrind -q --error-exitcode=99 --leak-check=full --show-leak-kinds=all --errors-for-leak-kinds=all"
@@ -82,8 +94,7 @@ if [ "$part" != long ]; then
     step "compile with AddressSanitizer and UBSan" make tool STATICLIB="$STATICLIB" TOOL="$work/checked" \
         CFLAGS="-O1 -g -fsanitize=address,undefined -fno-sanitize-recover=all"
     for group in test_text test_load test_reads test_damage; do
-        step "$group" tests "$plain" $group.py STEP=3
-        step "$group under the sanitizers" tests "$work/checked" $group.py STEP=48
+        step "$group, plain and under the sanitizers" both $group.py
     done
     step "examples of docs/TOOL.md" tests "$plain" test_docs.py
     step "valgrind" under_valgrind

@@ -169,6 +169,42 @@ class Changed(Case):
         self.assertEqual(self.read(self.book), self.good_book)
 
 
+class Random(Case):
+    """No bytes in the files or the input bring a command down."""
+
+    def run_all(self):
+        for words in (["audit"], ["show"], ["pairs"], ["load"], ["load", "--after=3"]):
+            status, _, messages = run(*words, self.book, data=self.chance.randbytes(40))
+            self.assertIn(status, range(8), (words, messages))
+
+    def test_random_files(self):
+        self.chance = random.Random(8)
+        self.load(days(80))
+        book, data = self.read(self.book), self.read(self.journal)
+        parts = [data[at:at + ENTRY] for at in range(ENTRY, len(data), ENTRY)] + [bytes(ENTRY)]
+        for place in range(40 // STEP + 2):
+            size = self.chance.randrange(2000)
+            mixed = b"".join(self.chance.choice(parts) for _ in range(size % 20))
+            for made in (self.chance.randbytes(size), data[:size] + self.chance.randbytes(size),
+                         journal.HEADER + mixed, data[:ENTRY * (size % 80)] + mixed):
+                self.write("desk.book.journal", made)
+                if size % 3 == 0 and os.path.exists(self.book):
+                    os.remove(self.book)
+                else:
+                    self.write("desk.book", self.chance.choice(
+                        [book, self.chance.randbytes(len(book)), book[:BOOK] + made[-ENTRY:]]))
+                self.run_all()
+
+    def test_random_input(self):
+        chance = random.Random(9)
+        self.load(days(80))
+        for _ in range(40 // STEP + 2):
+            status, out, _ = run("load", self.book, data=chance.randbytes(chance.randrange(200)))
+            self.assertIn(status, (DONE, 3))
+            self.assertEqual(status == 3, out.endswith(b" 3 0 0 0\n"))
+        self.done("audit", self.book)
+
+
 class Crashes(Case):
     """Last batches that a crash cut, before any of their lines was printed."""
 

@@ -229,8 +229,10 @@ class Trouble(Case):
         for number in (signal.SIGINT, signal.SIGTERM, signal.SIGHUP):
             os.remove(self.book)
             os.remove(self.journal)
+            # A shell lets programs behind '&' ignore SIGINT, and so this test may have been started.
             child = subprocess.Popen([TOOL, "load", self.book], stdin=subprocess.PIPE,
-                                     stdout=subprocess.PIPE, stderr=subprocess.PIPE)
+                                     stdout=subprocess.PIPE, stderr=subprocess.PIPE,
+                                     preexec_fn=lambda: signal.signal(number, signal.SIG_DFL))
             child.stdin.write(data[:2000])
             child.stdin.flush()
             child.stdout.readline()
