@@ -1,7 +1,14 @@
 # Two commands do all the set-up: `make run` and `make test`. `make bench` measures.
 LIBRARIES = calendar valuation baskets picking records reads engine
 
-.PHONY: run test bench bench-page libraries clean
+# The operator's tool: its sources and the libraries it is linked with.
+STATICLIB = target/staticlib
+TOOL_SOURCES = $(wildcard tools/*.c)
+TOOL_LIBRARIES = $(foreach name,calendar valuation baskets records reads engine,$(STATICLIB)/lib$(name).a)
+TOOL = build/yordzepa
+CFLAGS = -O2 -g
+
+.PHONY: run test bench bench-page libraries tool test-tool clean
 
 # Proves the program and what it uses, and runs it on document 01's example.
 run:
@@ -15,6 +22,21 @@ test:
 # The libraries for C and Rust: target/staticlib/lib*.a, declared in include/yordzepa.h.
 libraries:
 	@for name in $(LIBRARIES); do rt staticlib $$name >/dev/null || exit 1; done
+
+# The operator's tool: build/yordzepa. docs/TOOL.md tells how it is used.
+tool: $(TOOL)
+
+$(TOOL): $(TOOL_SOURCES) $(wildcard tools/*.h) include/yordzepa.h $(TOOL_LIBRARIES)
+	mkdir -p $(dir $@)
+	$(CC) -std=c11 -Wall -Wextra -Werror $(CFLAGS) -Iinclude -Itools $(TOOL_SOURCES) $(TOOL_LIBRARIES) -o $@
+
+# A library that is not there yet.
+target/staticlib/lib%.a:
+	rt staticlib $* >/dev/null
+
+# The tool's tests, the long part too.
+test-tool: tool
+	sh tests/tool/run.sh
 
 # The proved functions beside plain Rust, the engine beside the second program, in one run: Markdown tables.
 bench: libraries

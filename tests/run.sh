@@ -44,3 +44,6 @@ for file in tests/tests/*.rs; do
     step "second program: $library" \
         cargo test --release --offline --locked --quiet --manifest-path tests/Cargo.toml --features engine --test "$library"
 done
+
+# The operator's tool: all but the kills, which `make test-tool` adds.
+sh tests/tool/run.sh quick

@@ -1,0 +1,163 @@
+"""Crashes of a load: at every call that changes a file, and by kills at random moments."""
+import errno
+import os
+import random
+import shutil
+import signal
+import subprocess
+import tempfile
+import time
+import unittest
+
+import journal
+from common import BOOK, DONE, INTERRUPTED, SYSTEM, TOOL, Case, days, run
+
+KILLS = int(os.environ.get("KILLS", "200"))
+
+
+class Crash(Case):
+    """Records, what a load without crashes makes of them, and the checks after a crash."""
+
+    count = 300
+    batch = "60"
+
+    def setUp(self):
+        super().setUp()
+        self.data = b"".join(days(self.count, 11))
+        self.input = self.write("day.rec", self.data)
+        self.want = self.done("load", "-b", self.batch, self.book, self.input)
+        self.want_book = self.read(self.book)
+        self.want_journal = self.read(self.journal)
+        self.restart()
+
+    def restart(self):
+        for path in (self.book, self.journal, self.book + ".new"):
+            if os.path.exists(path):
+                os.remove(path)
+
+    def check_files(self, printed):
+        """What was printed is in the journal, and the book is one of the journal's."""
+        whole = printed[:printed.rfind(b"\n") + 1]
+        self.assertTrue(self.want.startswith(printed))
+        kept = b""
+        if os.path.exists(self.journal):
+            found = journal.whole_entries(self.read(self.journal))
+            kept = "".join(entry.line() for entry in found).encode()
+        self.assertTrue(self.want.startswith(kept))
+        self.assertTrue(kept.startswith(whole), "lines were printed that the journal has not")
+        if os.path.exists(self.book):
+            journal.check_book(self.read(self.book), self.read(self.journal))
+        return kept.count(b"\n")
+
+    def check_repeated(self):
+        """The load is repeated, and all is as without a crash."""
+        status, out, messages = run("load", "-b", self.batch, "--after=0", self.book, self.input)
+        self.assertEqual((status, out), (DONE, self.want), messages)
+        self.check_end()
+
+    def check_end(self):
+        self.assertEqual(self.read(self.book)[:BOOK], self.want_book[:BOOK])
+        self.done("audit", self.book)
+        self.assertFalse(os.path.exists(self.book + ".new"))
+
+
+class EveryCall(Crash):
+    @classmethod
+    def setUpClass(cls):
+        cls.work = tempfile.mkdtemp(prefix="yordzepa-")
+        cls.shim = os.path.join(cls.work, "crash.so")
+        source = os.path.join(os.path.dirname(os.path.abspath(__file__)), "crash.c")
+        subprocess.run([os.environ.get("CC", "cc"), "-shared", "-fPIC", "-O1", source, "-o",
+                        cls.shim, "-ldl"], check=True)
+
+    @classmethod
+    def tearDownClass(cls):
+        shutil.rmtree(cls.work)
+
+    def crashed(self, at, how, *more, **env):
+        return subprocess.run([TOOL, "load", "-b", self.batch, *more, self.book, self.input],
+                              capture_output=True,
+                              env=dict(os.environ, LD_PRELOAD=self.shim, CRASH_AT=str(at),
+                                       CRASH_HOW=str(how), **env))
+
+    def calls(self):
+        log = self.path("log")
+        self.assertEqual(self.crashed(0, "", CRASH_LOG=log).returncode, DONE)
+        count = len(self.read(log))
+        os.remove(log)
+        self.restart()
+        return count
+
+    def test_killed(self):
+        count = self.calls()
+        self.assertGreater(count, 15)
+        for how in ("before", "after", "half", "lose"):
+            for at in range(1, count + 1):
+                done = self.crashed(at, how)
+                self.assertEqual(done.returncode, -signal.SIGKILL, (at, how))
+                self.check_files(done.stdout)
+                # A crash while the crash is mended.
+                again = self.crashed(at % 5 + 1, how, "--after=0")
+                self.assertIn(again.returncode, (DONE, -signal.SIGKILL))
+                self.check_files(again.stdout)
+                self.check_repeated()
+                self.restart()
+
+    def test_failed(self):
+        """The same calls fail: a message, a status, and the load can be repeated."""
+        for number in (errno.ENOSPC, errno.EIO):
+            for at in range(1, self.calls() + 1):
+                done = self.crashed(at, number)
+                self.assertEqual(done.returncode, SYSTEM, (at, done.stderr))
+                self.assertIn(os.strerror(number).encode(), done.stderr)
+                self.check_files(done.stdout)
+                self.check_repeated()
+                self.restart()
+
+
+class Kills(Crash):
+    count = 2000
+    batch = "25"
+
+    def start(self):
+        with open(self.path("lines"), "wb") as out:
+            return subprocess.Popen([TOOL, "load", "-b", self.batch, "--after=0", self.book,
+                                     self.input], stdout=out, stderr=subprocess.DEVNULL)
+
+    def test_random_kills(self):
+        """Killed at random moments, repeated and killed again, until all kills are done."""
+        chance = random.Random(12)
+        begun = time.monotonic()
+        self.assertEqual(self.start().wait(), DONE)
+        whole = time.monotonic() - begun
+        self.restart()
+        kills = ended = 0
+        places = set()
+        while kills < KILLS:
+            child = self.start()
+            time.sleep(chance.uniform(0, whole * chance.choice([0.4, 0.8, 1.2])))
+            child.kill()
+            status = child.wait()
+            places.add(self.check_files(self.read(self.path("lines"))))
+            if status == DONE:
+                ended += 1
+                self.assertEqual(self.read(self.path("lines")), self.want)
+                self.check_end()
+                self.restart()
+                continue
+            self.assertEqual(status, -signal.SIGKILL)
+            kills += 1
+            if kills % 20 == 0:
+                self.assertIn(run("audit", self.book)[0], (DONE, INTERRUPTED, SYSTEM))
+            # Most loads are taken up where they were killed, some from the start.
+            if chance.random() < 0.2:
+                self.check_repeated()
+                self.restart()
+        self.check_repeated()
+        print("\n%d kills, with %d different places reached, and %d loads that ended before the kill"
+              % (kills, len(places), ended), end=" ")
+        self.assertGreater(len(places), 20)
+
+
+if __name__ == "__main__":
+    unittest.main()
