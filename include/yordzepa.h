@@ -310,7 +310,8 @@ uint64_t records_write(uint64_t kind, const uint64_t fields[YORDZEPA_FIELDS], ui
 
 /*
  * Applies one record to a book. The book is YORDZEPA_BOOK bytes that the host keeps; it begins with
- * an opening (kind 0), which is accepted whatever the book held. The record is as at records_read.
+ * an opening (kind 0), which is accepted whatever the book held, where its day is open. The record is
+ * as at records_read; a FOP's amount below the book's tolerance gives 4 too.
  *
  * The answer is code, A, B, M. A, B and M are 0 but for:
  *
@@ -329,7 +330,7 @@ void engine_call(uint8_t *book, size_t book_length, const uint8_t *record, size_
 /*
  * The reads. None changes the book. Each answer begins with the code, and its other numbers are 0
  * in a refusal. Codes of all reads: 1, 2, 4 for a number out of its range, 5 for what is not set up
- * or not in use.
+ * or not in use (a request's number has no range: it never gives 4).
  */
 
 /* The nominal of one security in a participant's account: code, nominal. */

@@ -1,6 +1,6 @@
 #!/bin/sh
-# The tool's tests, from the repository's root or anywhere else. 'quick' leaves out the kills,
-# 'long' does them alone. Ends at the first failure. Needs cc, make, python3 and valgrind.
+# The tool's tests, from the repository's root or anywhere else. 'quick' leaves out the kills and the
+# times, 'long' does them alone. Ends at the first failure. Needs cc, make, python3 and valgrind.
 set -eu
 cd "$(dirname "$0")/../.."
 
@@ -98,8 +98,9 @@ if [ "$part" != long ]; then
     done
     step "examples of docs/TOOL.md" tests "$plain" test_docs.py
     step "valgrind" under_valgrind
-    step "test_speed" tests "$plain" test_speed.py
 fi
 if [ "$part" != quick ]; then
+    # It measures time, so the gate leaves it out.
+    step "test_speed" tests "$plain" test_speed.py
     step "test_crash" tests "$plain" test_crash.py
 fi

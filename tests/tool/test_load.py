@@ -388,10 +388,10 @@ class Trouble(Case):
 
 
 class Progress(Case):
-    def watch(self, words, out):
+    def watch(self, words, out, **variables):
         """Runs with standard error on a terminal; what it showed."""
         master, slave = pty.openpty()
-        child = subprocess.Popen([TOOL, *words], stdin=subprocess.PIPE, stdout=out, stderr=slave)
+        child = subprocess.Popen([TOOL, *words], stdin=subprocess.PIPE, stdout=out, stderr=slave, env={**os.environ, **variables})
         os.close(slave)
         return child, master
 
@@ -410,7 +410,7 @@ class Progress(Case):
 
     def test_bar(self):
         path = self.write("long.rec", b"".join(days(9000)))
-        child, master = self.watch(["load", self.book, path], subprocess.DEVNULL)
+        child, master = self.watch(["load", self.book, path], subprocess.DEVNULL, YORDZEPA_BAR_AT_ONCE="1")
         shown = self.seen(master)
         child.communicate()
         self.assertEqual(child.returncode, DONE)

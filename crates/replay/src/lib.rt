@@ -1,5 +1,5 @@
 // A stream of calls through the exported entries: records and reads, each getting the book that the last one left.
-// It uses the entries' promises alone, so a weaker promise of an entry leaves it unproved.
+// It uses the entries' promises alone, so an entry that promised less of the book or of its code would leave it unproved.
 ghost use mathlib.Core.Path.{_≡_};
 ghost use Prim.Native.Nat.{_+_, _≤_, _<_, min};
 ghost use lib.ListN.{length, getD};
@@ -36,7 +36,7 @@ fn argument_at(stream: &[u8], i: usize) -> u64
         + byte_at(stream, i + 4)
 }
 
-// The code of a read of an account, a position or an exposure.
+// The code of a read of an account or a position.
 fn nominal_code(book: &[u8], kind: u64, n: u64) -> u64
     requires { ⌜ (kind < 2) × (n < 4294967296) ⌝ }
     ensures { λ r. ⌜ r ≡ readCode (now (book .entry)) (readOf kind n) ⌝ }

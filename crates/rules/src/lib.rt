@@ -1,1 +1,1 @@
-// The rules of the book as definitions: soundness, codes, steps, reads, the ledger. There is no code here.
+// The rules of the book as definitions: soundness, codes, steps, the call, the reads. There is no code here.
