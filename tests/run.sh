@@ -22,6 +22,9 @@ step() {
     fi
 }
 
+# Two crates at a time; a static library by itself takes one after the other.
+step "rt check engine reads" rt check engine reads
+
 for library in calendar valuation baskets picking records reads engine; do
     step "rt staticlib $library" rt staticlib "$library"
 done
