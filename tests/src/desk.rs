@@ -22,12 +22,13 @@ pub trait Desk {
     fn lend(&mut self, bytes: &[u8]);
 }
 
-/// The desk that the second program is compared with: the proved engine with the feature `engine`;
+/// The desk that the second program is compared with: the proved engine on guarded memory with the
+/// feature `engine`;
 /// the second program's calls and the proved reads with the feature `reads`; else the second program
 /// itself, so that the comparison runs before there is an engine.
 pub fn under_test() -> Box<dyn Desk> {
     #[cfg(feature = "engine")]
-    return Box::new(crate::engine::EngineDesk::new());
+    return Box::new(crate::engine::GuardedDesk::new());
     #[cfg(all(feature = "reads", not(feature = "engine")))]
     return Box::new(crate::engine::ReadsDesk::new());
     #[cfg(not(feature = "reads"))]

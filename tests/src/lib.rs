@@ -1,6 +1,7 @@
 //! Compares the proved libraries with a second program written from document 01.
 //!
 //! - `proved`: the libraries' exported functions; `engine`: the call and the reads on a book.
+//! - `guarded`: memory beside inaccessible pages, lent to the engine in all comparisons.
 //! - `second`: the second program, written to be read beside document 01.
 //! - `desk`: a program with a book, which can be the engine, the second program, or one with a wrong turn.
 //! - `lists`: lists of calls from a seed; `compare`: runs a list on two desks and shrinks what differs.
@@ -13,6 +14,7 @@ pub mod compare;
 pub mod desk;
 #[cfg(feature = "reads")]
 pub mod engine;
+pub mod guarded;
 pub mod image;
 pub mod lists;
 pub mod plain;
