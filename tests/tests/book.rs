@@ -1,23 +1,35 @@
 //! The second program against another desk on lists of calls: the proved engine with the feature
 //! `engine`, else the second program itself. And a test of this test: wrong programs are found.
 
-use yordzepa_tests::compare::{run, shrink, text, Checks, Coverage, KINDS};
+use yordzepa_tests::compare::{run, run_beside, shrink, text, Checks, Coverage, KINDS};
 use yordzepa_tests::desk::{under_test, Desk, SecondDesk};
-use yordzepa_tests::lists::{list, List, Theme};
+use yordzepa_tests::driver::{first_difference, jobs, shortest};
+use yordzepa_tests::lists::List;
 use yordzepa_tests::second::book::Turn;
+use yordzepa_tests::second::ledger::{Lapse, Ledger};
 use yordzepa_tests::second::notes::Branch;
 
-/// Lists of each theme, and calls in each. The environment's SEEDS asks for more.
+/// Lists of each theme, of 500 calls each. The environment's SEEDS asks for more, and `make fuzz`
+/// goes on with others.
 const SEEDS: u64 = 45;
-const LENGTH: usize = 500;
 
-fn lists() -> impl Iterator<Item = List> {
+/// After every call: the answer, all bytes of the book, demand 3's sums, a read of all that the call
+/// changed and some reads of the rest.
+const CHECKS: Checks = Checks { bytes: true, reads: 4, sweep: 200 };
+
+/// The same, and a read of every account, position, exposure, request and basket after every call
+/// that changed the book: some 400 reads a call, so only the first lists of each theme have it.
+const EVERY_READ: Checks = Checks { sweep: 1, ..CHECKS };
+const SEEDS_WITH_EVERY_READ: u64 = 3;
+
+fn seeds() -> std::ops::RangeInclusive<u64> {
     let seeds = std::env::var("SEEDS").ok().and_then(|number| number.parse().ok());
-    (1..=seeds.unwrap_or(SEEDS))
-        .flat_map(|seed| Theme::ALL.iter().map(move |&theme| list(theme, seed, LENGTH)))
+    1..=seeds.unwrap_or(SEEDS)
 }
 
-const CHECKS: Checks = Checks { bytes: true, reads: 4, sweep: 500 };
+fn lists() -> impl Iterator<Item = List> {
+    jobs(seeds(), |_| CHECKS).map(|job| job.list())
+}
 
 /// Pairs of kind and code that the lists have to reach; the last line is any other kind.
 const PAIRS: [&[usize]; KINDS] = [
@@ -39,13 +51,10 @@ const PAIRS: [&[usize]; KINDS] = [
 
 #[test]
 fn lists_of_calls_are_answered_alike() {
-    let mut coverage = Coverage::new();
-    for list in lists() {
-        if run(&list, &mut *under_test(), CHECKS, &mut coverage).is_some() {
-            let short = shrink(&list, CHECKS, &under_test);
-            let difference = run(&short, &mut *under_test(), CHECKS, &mut Coverage::new());
-            panic!("{}{:?}", text(&short, &under_test), difference);
-        }
+    let checks = |seed| if seed <= SEEDS_WITH_EVERY_READ { EVERY_READ } else { CHECKS };
+    let (coverage, found) = first_difference(jobs(seeds(), checks), &under_test, &|_, _| true);
+    if let Some(job) = found {
+        panic!("{}", shortest(&job, &under_test));
     }
     println!("{}", coverage.text());
     for (kind, codes) in PAIRS.iter().enumerate() {
@@ -73,7 +82,7 @@ const WITHOUT_BYTES: Checks = Checks { bytes: false, reads: 4, sweep: 500 };
 #[test]
 fn every_wrong_turn_is_found() {
     let mut missed = Vec::new();
-    for turn in Turn::WRONG {
+    for &turn in Turn::WRONG {
         let mut calls = 0;
         let found = lists().find_map(|list| {
             let mut desk = SecondDesk::wrong(turn);
@@ -89,6 +98,22 @@ fn every_wrong_turn_is_found() {
         }
     }
     assert!(missed.is_empty(), "not found: {missed:?}");
+}
+
+/// A ledger that forgets withdrawals or closings does not agree with a right program: so the ledger
+/// is compared. By the other desk's reads alone, as above.
+#[test]
+fn every_wrong_ledger_is_found() {
+    let ledgers: [fn() -> Ledger; 2] =
+        [|| Ledger::wrong(Lapse::Withdrawals), || Ledger::wrong(Lapse::Closings)];
+    for (place, ledger) in ledgers.iter().enumerate() {
+        let checks = Checks { sweep: 50, ..WITHOUT_BYTES };
+        let found = lists().find_map(|list| {
+            let mut desk = SecondDesk::new();
+            run_beside(&list, &mut desk, *ledger, checks, &mut Coverage::new())
+        });
+        println!("{place}: {:?}", found.expect("a list that shows it"));
+    }
 }
 
 /// The shortest list found for a wrong program is short, and still shows it.
