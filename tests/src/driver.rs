@@ -25,11 +25,12 @@ impl Job {
 /// A list of every theme for each seed.
 pub fn jobs(
     seeds: impl Iterator<Item = u64>,
-    checks: impl Fn(u64) -> Checks,
+    checks: impl Fn(Theme, u64) -> Checks,
 ) -> impl Iterator<Item = Job> {
-    seeds.flat_map(move |seed| {
-        let checks = checks(seed);
-        Theme::ALL.iter().map(move |&theme| Job { theme, seed, checks })
+    let themes = |seed| Theme::ALL.iter().map(move |&theme| (theme, seed));
+    seeds.flat_map(themes).map(move |(theme, seed)| {
+        let checks = checks(theme, seed);
+        Job { theme, seed, checks }
     })
 }
 

@@ -4,7 +4,7 @@
 use yordzepa_tests::compare::{run, run_beside, shrink, text, Checks, Coverage, KINDS};
 use yordzepa_tests::desk::{under_test, Desk, SecondDesk};
 use yordzepa_tests::driver::{first_difference, jobs, shortest};
-use yordzepa_tests::lists::List;
+use yordzepa_tests::lists::{List, Theme};
 use yordzepa_tests::second::book::Turn;
 use yordzepa_tests::second::ledger::{Lapse, Ledger};
 use yordzepa_tests::second::notes::Branch;
@@ -18,9 +18,18 @@ const SEEDS: u64 = 45;
 const CHECKS: Checks = Checks { bytes: true, reads: 4, sweep: 200 };
 
 /// The same, and a read of every account, position, exposure, request and basket after every call
-/// that changed the book: some 400 reads a call, so only the first lists of each theme have it.
+/// that changed the book. Each read tests the whole book's soundness, so that some 200 reads, with 32
+/// participants and 64 securities 2,000, take a hundred times the call's own time: only the first
+/// lists of each theme have it.
 const EVERY_READ: Checks = Checks { sweep: 1, ..CHECKS };
-const SEEDS_WITH_EVERY_READ: u64 = 3;
+
+fn checks(theme: Theme, seed: u64) -> Checks {
+    let seeds_with_every_read = if theme == Theme::Wild { 1 } else { 8 };
+    match seed <= seeds_with_every_read {
+        true => EVERY_READ,
+        false => CHECKS,
+    }
+}
 
 fn seeds() -> std::ops::RangeInclusive<u64> {
     let seeds = std::env::var("SEEDS").ok().and_then(|number| number.parse().ok());
@@ -28,7 +37,7 @@ fn seeds() -> std::ops::RangeInclusive<u64> {
 }
 
 fn lists() -> impl Iterator<Item = List> {
-    jobs(seeds(), |_| CHECKS).map(|job| job.list())
+    jobs(seeds(), checks).map(|job| job.list())
 }
 
 /// Pairs of kind and code that the lists have to reach; the last line is any other kind.
@@ -51,7 +60,6 @@ const PAIRS: [&[usize]; KINDS] = [
 
 #[test]
 fn lists_of_calls_are_answered_alike() {
-    let checks = |seed| if seed <= SEEDS_WITH_EVERY_READ { EVERY_READ } else { CHECKS };
     let (coverage, found) = first_difference(jobs(seeds(), checks), &under_test, &|_, _| true);
     if let Some(job) = found {
         panic!("{}", shortest(&job, &under_test));

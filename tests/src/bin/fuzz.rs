@@ -13,10 +13,11 @@ use std::time::{Duration, Instant, SystemTime, UNIX_EPOCH};
 use yordzepa_tests::compare::{Checks, Coverage};
 use yordzepa_tests::desk::{under_test, Desk, SecondDesk};
 use yordzepa_tests::driver::{first_difference, jobs, shortest, Job};
+use yordzepa_tests::lists::Theme;
 use yordzepa_tests::second::book::Turn;
 
 /// As in the gate; every eighth seed has every read after every call.
-fn checks(seed: u64) -> Checks {
+fn checks(_: Theme, seed: u64) -> Checks {
     Checks { bytes: true, reads: 4, sweep: if seed % 8 == 0 { 1 } else { 200 } }
 }
 
