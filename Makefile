@@ -8,7 +8,7 @@ TOOL_LIBRARIES = $(foreach name,calendar valuation baskets records reads engine,
 TOOL = build/yordzepa
 CFLAGS = -O2 -g
 
-.PHONY: run test bench bench-page libraries tool test-tool clean
+.PHONY: run test fuzz bench bench-page libraries tool test-tool clean
 
 # Proves the program and what it uses, and runs it on document 01's example.
 run:
@@ -18,6 +18,13 @@ run:
 # The gate: tests, layout, proofs, must-fail edits.
 test:
 	.ci/run
+
+# New lists of calls through the engine and the second program, until interrupted or for so long: `make
+# fuzz MINUTES=10`. It prints the seed it begins with (again: `make fuzz SEED=n`) and its progress, and
+# stops at the first difference with the shortest list found that shows it and status 1 (make's own is
+# 2). `WRONG=LatestFirst` puts a wrong program in the engine's place, to see that happen.
+fuzz: libraries
+	@cargo run --release --offline --locked --quiet --manifest-path tests/Cargo.toml --features engine --bin fuzz
 
 # The libraries for C and Rust: target/staticlib/lib*.a, declared in include/yordzepa.h.
 libraries:

@@ -42,6 +42,12 @@ step "compile tests/stack.c" \
     "$CC" -std=c11 -O1 -Wall -Wextra -Werror -Iinclude tests/stack.c target/staticlib/lib*.a -o "$work/stack"
 step "stack of a call" "$work/stack"
 
+# Not the libraries but what this host does with them; tests/guard.c says what is seen and what not.
+step "compile tests/guard.c" \
+    "$CC" -std=c11 -O1 -g -Wall -Wextra -Werror -fsanitize=address,undefined -fno-sanitize-recover=all \
+    -Iinclude tests/guard.c target/staticlib/lib*.a -o "$work/guard"
+step "sanitizers around lent memory" "$work/guard"
+
 for file in tests/tests/*.rs; do
     library=$(basename "$file" .rs)
     step "second program: $library" \

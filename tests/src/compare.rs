@@ -7,10 +7,10 @@ use crate::image::{
     EXPOSURE_TAKERS, POSITIONS, USEDS,
 };
 use crate::lists::{Call, List};
-use crate::second::book::{Book, EXPOSURES, PARTICIPANTS, SECURITIES};
+use crate::second::book::{Book, Key, Nominals, BASKETS, EXPOSURES, PARTICIPANTS, SECURITIES};
 use crate::second::ledger::Ledger;
 use crate::second::notes::{Branch, Notes};
-use crate::second::reads::Question;
+use crate::second::reads::{Question, Reply};
 use crate::second::records;
 
 /// Kinds 0 to 12, and one place for the others.
@@ -57,6 +57,22 @@ impl Coverage {
         self.questions[place][code as usize] += 1;
     }
 
+    /// Adds the counts of another run.
+    pub fn add(&mut self, other: &Coverage) {
+        self.calls += other.calls;
+        self.reads += other.reads;
+        for (mine, theirs) in self.pairs.iter_mut().flatten().zip(other.pairs.iter().flatten()) {
+            *mine += theirs;
+        }
+        for (mine, theirs) in self.branches.iter_mut().zip(&other.branches) {
+            *mine += theirs;
+        }
+        let theirs = other.questions.iter().flatten();
+        for (mine, theirs) in self.questions.iter_mut().flatten().zip(theirs) {
+            *mine += theirs;
+        }
+    }
+
     pub fn branch(&self, branch: Branch) -> u64 {
         self.branches[branch as usize]
     }
@@ -100,9 +116,11 @@ impl Notes for Coverage {
 pub struct Checks {
     /// All bytes of the book after every call, by docs/LAYOUT.md, and demand 3's sums in them.
     pub bytes: bool,
-    /// Reads after every call, in turn over all that the book holds.
+    /// Reads after every call, in turn over all that the book holds; all that the call has changed
+    /// is read beside them. With 0 nothing is read here.
     pub reads: usize,
-    /// All that the book holds is read after so many calls and at the end.
+    /// All that the book holds is read at the end, and after every so many calls that changed it:
+    /// with 1 after each of them. (A call that changes no byte can change no read.)
     pub sweep: usize,
 }
 
@@ -121,16 +139,34 @@ pub fn run(
     checks: Checks,
     coverage: &mut Coverage,
 ) -> Option<Difference> {
-    let mut run =
-        Run { second: SecondDesk::new(), other, ledger: None, checks, turn: 0, last: Vec::new() };
+    run_beside(list, other, Ledger::new, checks, coverage)
+}
+
+/// The same beside another ledger: a wrong one shows that the ledger is compared.
+pub fn run_beside(
+    list: &List,
+    other: &mut dyn Desk,
+    ledger: fn() -> Ledger,
+    checks: Checks,
+    coverage: &mut Coverage,
+) -> Option<Difference> {
+    let mut run = Run {
+        second: SecondDesk::new(),
+        other,
+        new_ledger: ledger,
+        ledger: None,
+        checks,
+        turn: 0,
+        changes: 0,
+        last: Vec::new(),
+    };
     if let Some(book) = &list.book {
         run.second.lend(book);
         run.other.lend(book);
     }
     for (place, call) in list.calls.iter().enumerate() {
         let last = place + 1 == list.calls.len();
-        let sweep = last || place % checks.sweep == checks.sweep - 1;
-        if let Err(text) = run.step(call, sweep, coverage) {
+        if let Err(text) = run.step(call, last, coverage) {
             return Some(Difference { place, text });
         }
     }
@@ -140,11 +176,14 @@ pub fn run(
 struct Run<'a> {
     second: SecondDesk,
     other: &'a mut dyn Desk,
+    new_ledger: fn() -> Ledger,
     /// From the first accepted opening.
     ledger: Option<Ledger>,
     checks: Checks,
     /// Which of the book's contents are read next.
     turn: usize,
+    /// Calls that have changed the book.
+    changes: usize,
     /// The other desk's bytes after the last call, where bytes are compared.
     last: Vec<u8>,
 }
@@ -158,7 +197,7 @@ fn same<T: PartialEq + std::fmt::Debug>(what: &str, second: T, other: T) -> Resu
 }
 
 impl Run<'_> {
-    fn step(&mut self, call: &Call, sweep: bool, coverage: &mut Coverage) -> Result<(), String> {
+    fn step(&mut self, call: &Call, last: bool, coverage: &mut Coverage) -> Result<(), String> {
         let mut changes = false;
         match call {
             Call::Read(question) => {
@@ -167,18 +206,22 @@ impl Run<'_> {
                 same("read", reply, self.other.read(*question))?;
             }
             Call::Record(bytes) => {
+                let before = self.second.book().clone();
                 let answer = self.second.call_noted(bytes, coverage);
                 coverage.count_call(bytes, answer[0]);
                 changes = answer[0] == 0;
                 same("answer", answer, self.other.call(bytes))?;
                 self.step_of_ledger(bytes, answer[0])?;
-                self.read_touched(bytes, answer, coverage)?;
+                if self.checks.reads > 0 {
+                    self.read_touched(bytes, answer, &before, coverage)?;
+                }
             }
         }
         if self.checks.bytes {
             self.compare_bytes(changes)?;
         }
-        if sweep {
+        self.changes += usize::from(changes);
+        if last || (changes && self.changes % self.checks.sweep == 0) {
             self.sweep(coverage)?;
         }
         Ok(())
@@ -187,7 +230,7 @@ impl Run<'_> {
     /// "every call in the list gave the ledger's code".
     fn step_of_ledger(&mut self, bytes: &[u8], code: u64) -> Result<(), String> {
         if self.ledger.is_none() && bytes.first() == Some(&0) && code == 0 {
-            self.ledger = Some(Ledger::new());
+            self.ledger = Some((self.new_ledger)());
         }
         if let Some(ledger) = &mut self.ledger {
             same("the ledger's code", ledger.call(bytes), code)?;
@@ -198,49 +241,51 @@ impl Run<'_> {
         Ok(())
     }
 
-    fn ask(&mut self, question: Question, coverage: &mut Coverage) -> Result<(), String> {
-        let reply = self.second.read(question);
-        coverage.count_read(question, reply[0]);
-        let other = self.other.read(question);
-        if reply == other {
-            return Ok(());
+    /// Puts the questions to both. The other desk's replies.
+    fn ask(
+        &mut self,
+        questions: &[Question],
+        coverage: &mut Coverage,
+    ) -> Result<Vec<Reply>, String> {
+        let mut others = Vec::with_capacity(questions.len());
+        for (&question, reply) in questions.iter().zip(self.second.read_all(questions)) {
+            coverage.count_read(question, reply[0]);
+            let other = self.other.read(question);
+            if reply != other {
+                return Err(format!("{question:?}: second {reply:?}, other {other:?}"));
+            }
+            others.push(other);
         }
-        Err(format!("{question:?}: second {reply:?}, other {other:?}"))
+        Ok(others)
     }
 
-    /// Reads what the call named, and some of the rest.
+    /// Reads what the call named, all that it changed, and some of the rest.
     fn read_touched(
         &mut self,
         bytes: &[u8],
         answer: [u64; 4],
+        before: &Book,
         coverage: &mut Coverage,
     ) -> Result<(), String> {
-        if self.checks.reads == 0 {
-            return Ok(());
-        }
+        let mut asked = Vec::new();
         if let Ok(record) = records::read(bytes) {
             let f = &record.fields;
             match record.kind {
-                4 | 5 => {
-                    self.ask(Question::Account { participant: f[0], security: f[1] }, coverage)?
-                }
+                4 | 5 => asked.push(Question::Account { participant: f[0], security: f[1] }),
                 6 | 7 if answer[0] == 0 => {
-                    self.ask(Question::Request(answer[1]), coverage)?;
-                    self.ask(Question::Request(answer[2]), coverage)?;
+                    asked.extend([Question::Request(answer[1]), Question::Request(answer[2])])
                 }
-                8 => self.ask(Question::Request(f[1]), coverage)?,
-                11 => self.ask(Question::Position { exposure: f[1], security: f[2] }, coverage)?,
+                8 => asked.push(Question::Request(f[1])),
+                11 => asked.push(Question::Position { exposure: f[1], security: f[2] }),
                 _ => {}
             }
         }
-        let whole = matches!(bytes.first(), Some(9..=12)) && answer[0] == 0;
-        let count = if whole { 4 * self.checks.reads } else { self.checks.reads };
-        let questions = questions_in_turn(self.second.book(), self.turn, count);
-        self.turn += count;
-        for question in questions {
-            self.ask(question, coverage)?;
+        if answer[0] == 0 {
+            asked.extend(changed(before, self.second.book()));
         }
-        Ok(())
+        asked.extend(questions_in_turn(self.second.book(), self.turn, self.checks.reads));
+        self.turn += self.checks.reads;
+        self.ask(&asked, coverage).map(|_| ())
     }
 
     /// Every byte, and demand 3's sums in the other desk's bytes. A refused call and a read change
@@ -291,48 +336,57 @@ impl Run<'_> {
 
     /// Reads all that the book holds, and demand 3's sums by the other desk's reads alone.
     fn sweep(&mut self, coverage: &mut Coverage) -> Result<(), String> {
-        for question in questions(self.second.book()) {
-            self.ask(question, coverage)?;
-        }
+        let asked = questions(self.second.book());
+        let replies = self.ask(&asked, coverage)?;
         let ledger = match &self.ledger {
             None => return Ok(()),
             Some(ledger) => ledger,
         };
-        let mut lodged = vec![[0; SECURITIES]; PARTICIPANTS];
-        for (e, paper) in ledger.exposures().iter().enumerate() {
-            let reply = self.other.read(Question::Exposure(e as u64));
-            let (key, amount) = match paper {
-                None => {
-                    same("the code of an exposure not used", 5, reply[0])?;
+        let paper = ledger.exposures();
+        let mut lodged = [[None; SECURITIES]; PARTICIPANTS];
+        for (question, reply) in asked.iter().zip(&replies) {
+            let (giver, security) = match *question {
+                Question::Exposure(e) => {
+                    same(
+                        "an exposure on paper",
+                        on_paper(&paper[e as usize]),
+                        reply[..6].to_vec(),
+                    )?;
                     continue;
                 }
-                Some(paper) => paper,
+                // A key's giver was compared above: the exposures come before their positions.
+                Question::Position { exposure, security } => match paper[exposure as usize] {
+                    None => continue,
+                    Some((key, _)) => (usize::from(key.giver), security as usize),
+                },
+                Question::Account { participant, security } => {
+                    (participant as usize, security as usize)
+                }
+                _ => continue,
             };
-            let expected = [
-                0,
-                u64::from(key.giver),
-                u64::from(key.taker),
-                u64::from(key.basket),
-                u64::from(key.closing),
-                *amount,
-            ];
-            same("an exposure on paper", &expected[..], &reply[..6])?;
-            for s in set_up(self.second.book()) {
-                let question = Question::Position { exposure: e as u64, security: s as u64 };
-                lodged[usize::from(key.giver)][s] += self.other.read(question)[1];
+            if reply[0] == 0 {
+                *lodged[giver][security].get_or_insert(0) += reply[1];
             }
         }
-        for (p, nominals) in lodged.iter_mut().enumerate() {
-            if self.second.book().participants[p].is_none() {
-                continue;
-            }
-            for s in set_up(self.second.book()) {
-                let question = Question::Account { participant: p as u64, security: s as u64 };
-                nominals[s] += self.other.read(question)[1];
-                same("what a giver lodged", ledger.sums.lodged(p, s), nominals[s])?;
+        for (p, nominals) in lodged.iter().enumerate() {
+            for (s, nominal) in nominals.iter().enumerate() {
+                if let Some(nominal) = *nominal {
+                    same("what a giver lodged", ledger.sums.lodged(p, s), nominal)?;
+                }
             }
         }
         Ok(())
+    }
+}
+
+/// The reply that an exposure's read gives by the ledger.
+fn on_paper(exposure: &Option<(Key, u64)>) -> Vec<u64> {
+    match exposure {
+        None => vec![5, 0, 0, 0, 0, 0],
+        Some((key, amount)) => {
+            let [giver, taker, basket] = [key.giver, key.taker, key.basket].map(u64::from);
+            vec![0, giver, taker, basket, u64::from(key.closing), *amount]
+        }
     }
 }
 
@@ -385,6 +439,44 @@ pub fn questions(book: &Book) -> Vec<Question> {
         }
     }
     all
+}
+
+/// The reads of all that differs between two books: rows, exposures, baskets, each account's and
+/// each position's nominal.
+fn changed(before: &Book, after: &Book) -> Vec<Question> {
+    let mut all = Vec::new();
+    for (was, is) in before.requests.iter().zip(&after.requests) {
+        if was != is {
+            let rows = [was, is];
+            let numbers = rows.iter().filter_map(|row| row.as_ref().map(|r| u64::from(r.number)));
+            all.extend(numbers.map(Question::Request));
+        }
+    }
+    for e in (0..EXPOSURES).filter(|&e| before.exposures[e] != after.exposures[e]) {
+        all.push(Question::Exposure(e as u64));
+    }
+    for n in (0..BASKETS).filter(|&n| before.baskets[n] != after.baskets[n]) {
+        all.push(Question::Basket(n as u64));
+    }
+    for (e, s) in cells(&before.positions, &after.positions) {
+        all.push(Question::Position { exposure: e, security: s });
+    }
+    for (p, s) in cells(&before.accounts, &after.accounts) {
+        all.push(Question::Account { participant: p, security: s });
+    }
+    all
+}
+
+/// The places in which two tables of nominals differ.
+fn cells(before: &[Nominals], after: &[Nominals]) -> Vec<(u64, u64)> {
+    let mut cells = Vec::new();
+    for (row, (was, is)) in before.iter().zip(after).enumerate() {
+        if was != is {
+            let places = (0..SECURITIES).filter(|&s| was[s] != is[s]);
+            cells.extend(places.map(|s| (row as u64, s as u64)));
+        }
+    }
+    cells
 }
 
 /// `count` of these questions, going round.

@@ -22,12 +22,12 @@ pub trait Desk {
     fn lend(&mut self, bytes: &[u8]);
 }
 
-/// The desk that the second program is compared with: the proved engine with the feature `engine`;
-/// the second program's calls and the proved reads with the feature `reads`; else the second program
-/// itself, so that the comparison runs before there is an engine.
+/// The desk that the second program is compared with: the proved engine on guarded memory with the
+/// feature `engine`; the second program's calls and the proved reads with the feature `reads`; else
+/// the second program itself, so that the comparison runs before there is an engine.
 pub fn under_test() -> Box<dyn Desk> {
     #[cfg(feature = "engine")]
-    return Box::new(crate::engine::EngineDesk::new());
+    return Box::new(crate::engine::GuardedDesk::new());
     #[cfg(all(feature = "reads", not(feature = "engine")))]
     return Box::new(crate::engine::ReadsDesk::new());
     #[cfg(not(feature = "reads"))]
@@ -54,6 +54,17 @@ impl SecondDesk {
 
     pub fn book(&self) -> &Book {
         &self.program.book
+    }
+
+    /// Many reads of one book: its soundness is tested once.
+    pub fn read_all(&self, questions: &[Question]) -> Vec<Reply> {
+        let refused = match &self.other {
+            None if self.program.is_sound() => None,
+            Some(bytes) if bytes.len() != BYTES => Some(refusal(LENGTH)),
+            _ => Some(refusal(UNSOUND)),
+        };
+        let look = |&question: &Question| refused.unwrap_or_else(|| self.program.look(question));
+        questions.iter().map(look).collect()
     }
 
     /// A call that tells a listener of its step.

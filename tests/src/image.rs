@@ -113,7 +113,11 @@ impl Table {
     #[inline]
     pub fn get(self, bytes: &[u8], row: usize) -> u64 {
         let place = self.place(row);
-        bytes[place..place + self.width].iter().fold(0, |number, &b| number << 8 | u64::from(b))
+        let part = &bytes[place..place + self.width];
+        match *part {
+            [a, b, c, d] => u64::from(u32::from_be_bytes([a, b, c, d])),
+            _ => part.iter().fold(0, |number, &byte| number << 8 | u64::from(byte)),
+        }
     }
 
     #[inline]

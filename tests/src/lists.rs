@@ -51,10 +51,12 @@ pub enum Theme {
     Wild,
     /// A sound book that no list of calls reaches.
     Lent,
+    /// A book of another length: a short list of every kind and read.
+    OtherLength,
 }
 
 impl Theme {
-    pub const ALL: [Theme; 9] = [
+    pub const ALL: [Theme; 10] = [
         Theme::Round,
         Theme::Tiny,
         Theme::Odd,
@@ -64,6 +66,7 @@ impl Theme {
         Theme::LastDays,
         Theme::Wild,
         Theme::Lent,
+        Theme::OtherLength,
     ];
 }
 
@@ -81,6 +84,10 @@ pub fn record(kind: u64, numbers: &[u64]) -> Vec<u8> {
 /// The list of a theme and a seed, of about that many calls.
 pub fn list(theme: Theme, seed: u64, length: usize) -> List {
     let mut maker = Maker::new(theme, seed);
+    if theme == Theme::OtherLength {
+        let book = Some(maker.book_of_another_length());
+        return List { theme, seed, book, calls: maker.calls };
+    }
     let book = match theme {
         Theme::Lent => Some(maker.lent_book()),
         _ => {
@@ -123,7 +130,7 @@ impl Scale {
             deposit: 12,
         };
         match theme {
-            Theme::Round | Theme::Crowd | Theme::Lent => round,
+            Theme::Round | Theme::Crowd | Theme::Lent | Theme::OtherLength => round,
             Theme::Keys => Scale { participants: 6, baskets: 4, ..round },
             Theme::Tiny => Scale {
                 lots: vec![1, 1, 2, 3],
@@ -896,6 +903,33 @@ impl Maker {
         self.calls.clear();
         let bytes = bytes_of(&book);
         self.mirror.lend(&bytes);
+        bytes
+    }
+
+    /// A sound book that is cut or has bytes after it, and calls of every kind on it.
+    fn book_of_another_length(&mut self) -> Vec<u8> {
+        let mut bytes = self.lent_book();
+        let length = match self.random.below(3) {
+            0 => self.random.below(bytes.len() as u64) as usize,
+            1 => bytes.len() - self.random.between(1, 16) as usize,
+            _ => bytes.len() + self.random.between(1, 16) as usize,
+        };
+        bytes.resize(length, 0);
+        self.mirror.lend(&bytes);
+        self.before_the_opening();
+        for kind in 0..=12 {
+            let fields = fields_of(kind).expect("a known kind");
+            self.send(record(kind, &vec![1; fields.len()]));
+        }
+        for question in [
+            Question::Account { participant: 1, security: 1 },
+            Question::Position { exposure: 0, security: 0 },
+            Question::Exposure(0),
+            Question::Request(1),
+            Question::Basket(0),
+        ] {
+            self.calls.push(Call::Read(question));
+        }
         bytes
     }
 

@@ -1,51 +1,68 @@
 //! The second program against another desk on lists of calls: the proved engine with the feature
 //! `engine`, else the second program itself. And a test of this test: wrong programs are found.
 
-use yordzepa_tests::compare::{run, shrink, text, Checks, Coverage, KINDS};
+use yordzepa_tests::compare::{run, run_beside, shrink, text, Checks, Coverage, KINDS};
 use yordzepa_tests::desk::{under_test, Desk, SecondDesk};
-use yordzepa_tests::lists::{list, List, Theme};
+use yordzepa_tests::driver::{first_difference, jobs, shortest};
+use yordzepa_tests::lists::{List, Theme};
 use yordzepa_tests::second::book::Turn;
+use yordzepa_tests::second::ledger::{Lapse, Ledger};
 use yordzepa_tests::second::notes::Branch;
 
-/// Lists of each theme, and calls in each. The environment's SEEDS asks for more.
+/// Lists of each theme, of 500 calls each. The environment's SEEDS asks for more, and `make fuzz`
+/// goes on with others.
 const SEEDS: u64 = 45;
-const LENGTH: usize = 500;
 
-fn lists() -> impl Iterator<Item = List> {
-    let seeds = std::env::var("SEEDS").ok().and_then(|number| number.parse().ok());
-    (1..=seeds.unwrap_or(SEEDS))
-        .flat_map(|seed| Theme::ALL.iter().map(move |&theme| list(theme, seed, LENGTH)))
+/// After every call: the answer, all bytes of the book, demand 3's sums, a read of all that the call
+/// changed and some reads of the rest.
+const CHECKS: Checks = Checks { bytes: true, reads: 4, sweep: 200 };
+
+/// The same, and a read of every account, position, exposure, request and basket after every call
+/// that changed the book. Each read tests the whole book's soundness, so that some 200 reads, with 32
+/// participants and 64 securities 2,000, take a hundred times the call's own time: only the first
+/// lists of each theme have it.
+const EVERY_READ: Checks = Checks { sweep: 1, ..CHECKS };
+
+fn checks(theme: Theme, seed: u64) -> Checks {
+    let seeds_with_every_read = if theme == Theme::Wild { 1 } else { 8 };
+    match seed <= seeds_with_every_read {
+        true => EVERY_READ,
+        false => CHECKS,
+    }
 }
 
-const CHECKS: Checks = Checks { bytes: true, reads: 4, sweep: 500 };
+fn seeds() -> std::ops::RangeInclusive<u64> {
+    let seeds = std::env::var("SEEDS").ok().and_then(|number| number.parse().ok());
+    1..=seeds.unwrap_or(SEEDS)
+}
+
+fn lists() -> impl Iterator<Item = List> {
+    jobs(seeds(), checks).map(|job| job.list())
+}
 
 /// Pairs of kind and code that the lists have to reach; the last line is any other kind.
 const PAIRS: [&[usize]; KINDS] = [
-    &[0, 3, 4, 7],
-    &[0, 2, 3, 4, 6, 7],
-    &[0, 2, 3, 4],
-    &[0, 2, 3, 4, 6],
-    &[0, 2, 3, 4, 5, 11],
-    &[0, 2, 3, 4, 5, 10],
-    &[0, 2, 3, 4, 5, 7, 8, 9, 14, 15],
-    &[0, 2, 3, 4, 5, 7, 8, 9, 12, 14],
-    &[0, 2, 3, 4, 5, 12, 13],
-    &[0, 2, 3],
-    &[0, 2, 3],
-    &[0, 2, 3, 4, 5, 10, 12, 16],
-    &[0, 2, 3, 7],
-    &[2, 3],
+    &[0, 1, 3, 4, 7],
+    &[0, 1, 2, 3, 4, 6, 7],
+    &[0, 1, 2, 3, 4],
+    &[0, 1, 2, 3, 4, 6],
+    &[0, 1, 2, 3, 4, 5, 11],
+    &[0, 1, 2, 3, 4, 5, 10],
+    &[0, 1, 2, 3, 4, 5, 7, 8, 9, 14, 15],
+    &[0, 1, 2, 3, 4, 5, 7, 8, 9, 12, 14],
+    &[0, 1, 2, 3, 4, 5, 12, 13],
+    &[0, 1, 2, 3],
+    &[0, 1, 2, 3],
+    &[0, 1, 2, 3, 4, 5, 10, 12, 16],
+    &[0, 1, 2, 3, 7],
+    &[1, 2, 3],
 ];
 
 #[test]
 fn lists_of_calls_are_answered_alike() {
-    let mut coverage = Coverage::new();
-    for list in lists() {
-        if run(&list, &mut *under_test(), CHECKS, &mut coverage).is_some() {
-            let short = shrink(&list, CHECKS, &under_test);
-            let difference = run(&short, &mut *under_test(), CHECKS, &mut Coverage::new());
-            panic!("{}{:?}", text(&short, &under_test), difference);
-        }
+    let (coverage, found) = first_difference(jobs(seeds(), checks), &under_test, &|_, _| true);
+    if let Some(job) = found {
+        panic!("{}", shortest(&job, &under_test));
     }
     println!("{}", coverage.text());
     for (kind, codes) in PAIRS.iter().enumerate() {
@@ -57,7 +74,7 @@ fn lists_of_calls_are_answered_alike() {
         assert!(coverage.branch(branch) > 0, "{branch:?} was never reached");
     }
     for (place, codes) in coverage.questions.iter().enumerate() {
-        for code in [0, 2, 4, 5] {
+        for code in [0, 1, 2, 4, 5] {
             // A request's number has no range of its own.
             if (place, code) != (3, 4) {
                 assert!(codes[code] > 0, "read {place} never gave {code}");
@@ -73,7 +90,7 @@ const WITHOUT_BYTES: Checks = Checks { bytes: false, reads: 4, sweep: 500 };
 #[test]
 fn every_wrong_turn_is_found() {
     let mut missed = Vec::new();
-    for turn in Turn::WRONG {
+    for &turn in Turn::WRONG {
         let mut calls = 0;
         let found = lists().find_map(|list| {
             let mut desk = SecondDesk::wrong(turn);
@@ -89,6 +106,22 @@ fn every_wrong_turn_is_found() {
         }
     }
     assert!(missed.is_empty(), "not found: {missed:?}");
+}
+
+/// A ledger that forgets withdrawals or closings does not agree with a right program: so the ledger
+/// is compared. By the other desk's reads alone, as above.
+#[test]
+fn every_wrong_ledger_is_found() {
+    let ledgers: [fn() -> Ledger; 2] =
+        [|| Ledger::wrong(Lapse::Withdrawals), || Ledger::wrong(Lapse::Closings)];
+    for (place, ledger) in ledgers.iter().enumerate() {
+        let checks = Checks { sweep: 50, ..WITHOUT_BYTES };
+        let found = lists().find_map(|list| {
+            let mut desk = SecondDesk::new();
+            run_beside(&list, &mut desk, *ledger, checks, &mut Coverage::new())
+        });
+        println!("{place}: {:?}", found.expect("a list that shows it"));
+    }
 }
 
 /// The shortest list found for a wrong program is short, and still shows it.

@@ -138,85 +138,48 @@ fn edges_of_document_01() {
     assert_eq!(proved::is_open(LAST_DAY + 1), Answer::refused(7));
 }
 
-/// Easter Sundays as published in church calendars and almanacs, with the earliest and the latest
-/// dates that the rule can give (22 March 2285 and 2353; 25 April 2038, 2190, 2258 and 2326).
-const EASTER_SUNDAYS: [(u64, u64, u64); 60] = [
-    (2002, 3, 31),
-    (2003, 4, 20),
-    (2004, 4, 11),
-    (2005, 3, 27),
-    (2006, 4, 16),
-    (2007, 4, 8),
-    (2008, 3, 23),
-    (2009, 4, 12),
-    (2010, 4, 4),
-    (2011, 4, 24),
-    (2012, 4, 8),
-    (2013, 3, 31),
-    (2014, 4, 20),
-    (2015, 4, 5),
-    (2016, 3, 27),
-    (2017, 4, 16),
-    (2018, 4, 1),
-    (2019, 4, 21),
-    (2020, 4, 12),
-    (2021, 4, 4),
-    (2022, 4, 17),
-    (2023, 4, 9),
-    (2024, 3, 31),
-    (2025, 4, 20),
-    (2026, 4, 5),
-    (2027, 3, 28),
-    (2028, 4, 16),
-    (2029, 4, 1),
-    (2030, 4, 21),
-    (2031, 4, 13),
-    (2032, 3, 28),
-    (2033, 4, 17),
-    (2034, 4, 9),
-    (2035, 3, 25),
-    (2036, 4, 13),
-    (2037, 4, 5),
-    (2038, 4, 25),
-    (2039, 4, 10),
-    (2040, 4, 1),
-    (2041, 4, 21),
-    (2042, 4, 6),
-    (2043, 3, 29),
-    (2044, 4, 17),
-    (2045, 4, 9),
-    (2046, 3, 25),
-    (2047, 4, 14),
-    (2048, 4, 5),
-    (2049, 4, 18),
-    (2050, 4, 10),
-    (2076, 4, 19),
-    (2079, 4, 23),
-    (2095, 4, 24),
-    (2099, 4, 12),
-    (2100, 3, 28),
-    (2160, 3, 23),
-    (2190, 4, 25),
-    (2258, 4, 25),
-    (2285, 3, 22),
-    (2326, 4, 25),
-    (2353, 3, 22),
+/// The dates of a file of tests/vectors: a line each, `2002-03-31`; lines that begin with # are text.
+fn published(file: &str) -> Vec<Date> {
+    let number = |text: &str| text.parse::<u64>().expect("a number");
+    let lines = file.lines().filter(|line| !line.starts_with('#'));
+    lines
+        .map(|line| match line.split('-').map(number).collect::<Vec<u64>>()[..] {
+            [year, month, day] => Date { year, month, day },
+            _ => panic!("no date: {line}"),
+        })
+        .collect()
+}
+
+/// The published lists, and the last year of each; all begin in 2002. tests/vectors/README.md tells
+/// what they cover: no list has the years 2300 to 2401.
+const EASTER_LISTS: [(&str, u64); 3] = [
+    (include_str!("../vectors/easter-date-calc.txt"), 2299),
+    (include_str!("../vectors/easter-quantlib.txt"), 2199),
+    (include_str!("../vectors/easter-dateutil.txt"), 2050),
 ];
+
+fn closed(day: u64) -> bool {
+    proved::is_open(day) == Answer { code: 0, value: 0 }
+}
 
 #[test]
 fn published_easter_dates() {
     let second = Calendar::new();
-    for (year, month, day) in EASTER_SUNDAYS {
-        let sunday = second.day_of(Date { year, month, day });
-        assert_eq!(weekday(sunday), "Sunday", "{year}");
-        assert_eq!(second.easter_sunday(year), sunday, "the second program, {year}");
-        let closed = |day: u64| proved::is_open(day) == Answer { code: 0, value: 0 };
-        assert!(closed(sunday - 2) && closed(sunday + 1), "{year}");
-        // The other working days from Monday to the Thursday after; 1 May is never among them.
-        for near in
-            [sunday - 6, sunday - 5, sunday - 4, sunday - 3, sunday + 2, sunday + 3, sunday + 4]
-        {
-            assert!(!closed(near), "{year}, day {near}");
+    for (file, last) in EASTER_LISTS {
+        let list = published(file);
+        let years: Vec<u64> = list.iter().map(|date| date.year).collect();
+        assert_eq!(years, (FIRST_YEAR..=last).collect::<Vec<u64>>(), "every year once");
+        for date in list {
+            let sunday = second.day_of(date);
+            assert_eq!(weekday(sunday), "Sunday", "{date:?}");
+            assert_eq!(second.easter_sunday(date.year), sunday, "the second program, {date:?}");
+            assert!(closed(sunday - 2) && closed(sunday + 1), "{date:?}");
+            // The other working days from the Monday before to the Thursday after; 1 May is never
+            // among them.
+            let before = sunday - 6..=sunday - 3;
+            for near in before.chain(sunday + 2..=sunday + 4) {
+                assert!(!closed(near), "{date:?}, day {near}");
+            }
         }
     }
 }
@@ -251,34 +214,54 @@ fn two_rules_for_easter_agree_in_all_years() {
     }
 }
 
-/// TARGET's closing days other than Saturdays and Sundays, as the ECB published them.
-const CLOSING_DAYS: [(u64, &[(u64, u64)]); 8] = [
-    (2002, &[(1, 1), (3, 29), (4, 1), (5, 1), (12, 25), (12, 26)]),
-    (2003, &[(1, 1), (4, 18), (4, 21), (5, 1), (12, 25), (12, 26)]),
-    (2008, &[(1, 1), (3, 21), (3, 24), (5, 1), (12, 25), (12, 26)]),
-    (2010, &[(1, 1), (4, 2), (4, 5)]),
-    (2020, &[(1, 1), (4, 10), (4, 13), (5, 1), (12, 25)]),
-    (2024, &[(1, 1), (3, 29), (4, 1), (5, 1), (12, 25), (12, 26)]),
-    (2025, &[(1, 1), (4, 18), (4, 21), (5, 1), (12, 25), (12, 26)]),
-    (2026, &[(1, 1), (4, 3), (4, 6), (5, 1), (12, 25)]),
-];
+/// The days of a year on which the engine's calendar is closed, Saturdays and Sundays left out: these
+/// are all closed.
+fn closed_weekdays(second: &Calendar, year: u64) -> Vec<Date> {
+    let first = second.day_of(Date { year, month: 1, day: 1 });
+    let last = second.day_of(Date { year, month: 12, day: 31 });
+    let weekend = |day: u64| weekday(day) == "Saturday" || weekday(day) == "Sunday";
+    for day in (first..=last).filter(|&day| weekend(day)) {
+        assert!(closed(day), "day {day} of {year}");
+    }
+    let weekdays = (first..=last).filter(|&day| !weekend(day));
+    weekdays.filter(|&day| closed(day)).map(|day| second.date_of(day)).collect()
+}
 
+/// The ECB's closing days of 2002 to 2006 as published: these and no other weekdays.
 #[test]
-fn target_closing_days() {
+fn published_closing_days() {
     let second = Calendar::new();
-    for (year, closing) in CLOSING_DAYS {
-        let first = second.day_of(Date { year, month: 1, day: 1 });
-        let length = if is_leap(year) { 366 } else { 365 };
-        let mut found = Vec::new();
-        for day in first..first + length {
-            let weekend = weekday(day) == "Saturday" || weekday(day) == "Sunday";
-            let closed = proved::is_open(day).value == 0;
-            assert!(closed || !weekend, "day {day} of {year}");
-            if closed && !weekend {
-                let date = second.date_of(day);
-                found.push((date.month, date.day));
+    let list = published(include_str!("../vectors/target-quantlib.txt"));
+    assert_eq!(list.len(), 23);
+    for year in 2002..=2006 {
+        let days: Vec<Date> = list.iter().filter(|date| date.year == year).copied().collect();
+        assert_eq!(closed_weekdays(&second, year), days, "{year}");
+    }
+}
+
+/// Document 01's closing days by themselves: Easter from the longest published list up to its end,
+/// then from Gauss's rule.
+#[test]
+fn closed_weekdays_of_every_year() {
+    let second = Calendar::new();
+    let list = published(EASTER_LISTS[0].0);
+    for year in FIRST_YEAR..=LAST_YEAR {
+        let easter = match list.iter().find(|date| date.year == year) {
+            Some(&date) => date,
+            None => {
+                let (month, day) = easter_by_gauss(year);
+                Date { year, month, day }
             }
-        }
-        assert_eq!(found, closing, "{year}");
+        };
+        let sunday = second.day_of(easter);
+        let mut days: Vec<u64> = [(1, 1), (5, 1), (12, 25), (12, 26)]
+            .iter()
+            .map(|&(month, day)| second.day_of(Date { year, month, day }))
+            .filter(|&day| weekday(day) != "Saturday" && weekday(day) != "Sunday")
+            .collect();
+        days.extend([sunday - 2, sunday + 1]);
+        days.sort_unstable();
+        let dates: Vec<Date> = days.iter().map(|&day| second.date_of(day)).collect();
+        assert_eq!(closed_weekdays(&second, year), dates, "{year}");
     }
 }

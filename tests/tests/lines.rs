@@ -1,12 +1,24 @@
-//! Document 01, The program's lines, on the second program.
+//! Document 01, The program's lines, by the second program and by the desk under test. (The program
+//! `desk` itself runs on the document's input in the gate: crates/desk/stdin and stdout.)
 
-use yordzepa_tests::second::lines::run;
+use yordzepa_tests::desk::under_test;
+use yordzepa_tests::lists::{list, Call, Theme};
+use yordzepa_tests::random::Random;
+use yordzepa_tests::second::lines::{self, run_on};
 use yordzepa_tests::second::records::{fields_of, length_of, write};
 
 /// A record of fields in order.
 fn record(kind: u64, fields: &[u64]) -> Vec<u8> {
     let length = length_of(&fields_of(kind).expect("a known kind"));
     write(kind, fields, length).expect("a legal record")
+}
+
+/// The lines of both, which have to be the same.
+fn run(input: &[u8]) -> Vec<String> {
+    let found = lines::run(input);
+    let mut desk = under_test();
+    assert_eq!(run_on(input, |record| desk.call(record)), found);
+    found
 }
 
 /// "Input, fields in order".
@@ -103,4 +115,24 @@ fn before_an_opening_every_known_record_gives_2() {
 #[test]
 fn no_input_prints_nothing() {
     assert!(run(&[]).is_empty());
+}
+
+/// The records of a list one after the other, cut at any byte.
+#[test]
+fn longer_inputs_are_answered_alike() {
+    let mut random = Random::new(0x11e5);
+    let mut count = 0;
+    for seed in 201..=206 {
+        for theme in Theme::ALL {
+            let calls = list(theme, seed, 300).calls.into_iter();
+            let records = calls.filter_map(|call| match call {
+                Call::Record(bytes) => Some(bytes),
+                Call::Read(_) => None,
+            });
+            let input: Vec<u8> = records.flatten().collect();
+            let cut = random.below(input.len() as u64 + 1) as usize;
+            count += run(&input).len() + run(&input[cut..]).len() + run(&input[..cut]).len();
+        }
+    }
+    assert!(count > 10_000, "{count} lines");
 }

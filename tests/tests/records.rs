@@ -1,6 +1,7 @@
 //! The record reader and writer against the second program.
 
 use yordzepa_tests::answers::{Reading, FIELDS};
+use yordzepa_tests::plain;
 use yordzepa_tests::proved;
 use yordzepa_tests::random::Random;
 use yordzepa_tests::second::records::{self, fields_of, length_of, Field, KINDS};
@@ -19,6 +20,8 @@ fn same_read(bytes: &[u8]) -> Reading {
     };
     let found = proved::read(bytes);
     assert_eq!(found, expected, "bytes {bytes:?}");
+    // The quick reader, which the second program's calls on a book go through.
+    assert_eq!(plain::read(bytes), expected, "bytes {bytes:?}");
     found
 }
 

@@ -51,6 +51,9 @@ impl Program {
 
     /// Moves what was picked from the giver's account to the exposure's position.
     pub(super) fn take_in(&mut self, exposure: usize, giver: usize, picked: &Picked) {
+        if self.takes(Turn::PicksNothing) {
+            return;
+        }
         let account = &mut self.book.accounts[giver];
         let position = &mut self.book.positions[exposure];
         for s in 0..SECURITIES {
@@ -63,8 +66,9 @@ impl Program {
     pub(super) fn give_back(&mut self, exposure: usize, security: usize, nominal: u32) {
         if let Some(used) = &self.book.exposures[exposure] {
             let giver = usize::from(used.key.giver);
+            let lost = u32::from(self.takes(Turn::LosesBond) && nominal % 7 == 0);
             self.book.positions[exposure][security] -= nominal;
-            self.book.accounts[giver][security] += nominal;
+            self.book.accounts[giver][security] += nominal - lost;
         }
     }
 

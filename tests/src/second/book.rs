@@ -345,11 +345,36 @@ impl Program {
     }
 }
 
-/// Wrong turns, one at a time, to see that the comparison finds each of them.
-#[derive(Clone, Copy, Debug, PartialEq, Eq)]
-pub enum Turn {
-    /// None: the second program itself.
-    Right,
+macro_rules! turns {
+    ($($(#[$text:meta])* $name:ident,)*) => {
+        /// Wrong turns, one at a time, to see that the comparison finds each of them.
+        #[derive(Clone, Copy, Debug, PartialEq, Eq)]
+        pub enum Turn {
+            /// None: the second program itself.
+            Right,
+            $($(#[$text])* $name,)*
+        }
+
+        impl Turn {
+            /// Every wrong turn.
+            pub const WRONG: &'static [Turn] = &[$(Turn::$name,)*];
+        }
+    };
+}
+
+turns! {
+    /// Every call gets the same code.
+    OneCode,
+    /// Every refusal gets the same code.
+    OneCodeForRefusals,
+    /// Every call is answered rightly and leaves the book as it was, but for an opening.
+    BookNeverMoves,
+    /// A recall that is refused by 16 moves the bonds.
+    RefusalWrites,
+    /// Nothing that is picked moves; every answer and total is as if it did.
+    PicksNothing,
+    /// What goes back to an account lacks one nominal, now and then.
+    LosesBond,
     /// Pairs with the latest equal request.
     LatestFirst,
     /// Pairs with the equal request in the lowest row, whatever its number.
@@ -414,42 +439,20 @@ pub enum Turn {
     ExposureBeforeRow,
     /// Recall: 10 before 12.
     TooMuchBeforeNone,
-}
-
-impl Turn {
-    /// Every wrong turn.
-    pub const WRONG: [Turn; 32] = [
-        Turn::LatestFirst,
-        Turn::LowestRowFirst,
-        Turn::WaitingTakerFirst,
-        Turn::ProfileAtOnce,
-        Turn::FirstProfileOfDay,
-        Turn::AgeInCalendarDays,
-        Turn::ValueByParcels,
-        Turn::DepositLimitOfAccount,
-        Turn::CancelOneSide,
-        Turn::TakerCancelsAlone,
-        Turn::FopsFirst,
-        Turn::FirstPairOnly,
-        Turn::OrderByLowerNumber,
-        Turn::ToleranceOffByOne,
-        Turn::PartialOfToday,
-        Turn::LimitByFound,
-        Turn::LimitOffByOne,
-        Turn::ReturnKeepsBonds,
-        Turn::FreeStopsAtNothing,
-        Turn::MarkInOnePass,
-        Turn::WrongBOfMark,
-        Turn::WrongBOfDay,
-        Turn::RecallKeepsSecurity,
-        Turn::RecallOffByOne,
-        Turn::RecallIgnoresBefore,
-        Turn::FreesNamedExposure,
-        Turn::ClosingDayLater,
-        Turn::UnpairedStay,
-        Turn::NumberOffByOne,
-        Turn::DayBeforeSetUp,
-        Turn::ExposureBeforeRow,
-        Turn::TooMuchBeforeNone,
-    ];
+    /// The settlement's A counts the FOPs that were due.
+    AOfSettleCountsDue,
+    /// A request's B is the partner's row.
+    BOfRequestIsRow,
+    /// The mark's M is what was missing before the Pick.
+    MOfMarkBefore,
+    /// A recall's M is the growth of the position's value, not the value found.
+    MOfRecallGrowth,
+    /// The day change's M adds up what all exposures have, closed or not.
+    MOfDayCountsAll,
+    /// 14 with one row left that would do.
+    False14,
+    /// 15 although the pair's exposure is there.
+    False15,
+    /// 16 unless the exposure is covered whole.
+    False16,
 }

@@ -76,6 +76,9 @@ impl Program {
         if self.takes(Turn::WrongBOfDay) {
             totals.b /= 2;
         }
+        if self.takes(Turn::MOfDayCountsAll) {
+            totals.m += self.book.used_exposures().map(|(_, used)| used.amount).sum::<u64>();
+        }
         Ok(totals)
     }
 

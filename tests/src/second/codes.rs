@@ -160,7 +160,11 @@ impl Program {
     /// "too few request rows, or numbers above 999,999,999": two of each where a taker request is
     /// made.
     fn request_rows<N: Notes>(&self, pairing: Pairing, notes: &mut N) -> Result<(), u64> {
-        let needed = if pairing == Pairing::Made { 2 } else { 1 };
+        let needed = match pairing {
+            Pairing::Made => 2,
+            _ if self.takes(Turn::False14) => 2,
+            _ => 1,
+        };
         let free = self.book.requests.iter().filter(|row| row.is_none()).take(needed).count();
         if free < needed {
             notes.reached(if free == 0 { Branch::NoRow } else { Branch::OneRowOfTwo });
@@ -181,7 +185,8 @@ impl Program {
             Some(key) if pairing != Pairing::Alone => key,
             _ => return Ok(()),
         };
-        let row = self.book.exposure_of(key).or_else(|| self.book.lowest_free_exposure());
+        let used = self.book.exposure_of(key).filter(|_| !self.takes(Turn::False15));
+        let row = used.or_else(|| self.book.lowest_free_exposure());
         refuse_if(row.is_none(), NO_EXPOSURE)
     }
 

@@ -1,7 +1,7 @@
 //! Document 01, The ledger of demand 3: "It is fed the list's calls with their arguments, no answer
 //! and no byte of the book."
 
-use super::book::{Book, Key, Program, EXPOSURES, PARTICIPANTS, SECURITIES};
+use super::book::{Book, Exposure, Key, Program, EXPOSURES, PARTICIPANTS, SECURITIES};
 use super::notes::Notes;
 
 /// "sums: D (deposited), W (withdrawn) for each participant and security; S (settled), R
@@ -13,11 +13,21 @@ pub struct Sums {
     pub settled: [u64; EXPOSURES],
     pub returned: [u64; EXPOSURES],
     pub closed: [u64; EXPOSURES],
+    /// None but in the tests of the tests.
+    lapse: Option<Lapse>,
+}
+
+/// What a wrong ledger forgets to add, to see that the comparison looks at its sums.
+#[derive(Clone, Copy, Debug, PartialEq, Eq)]
+pub enum Lapse {
+    Withdrawals,
+    Closings,
 }
 
 impl Sums {
-    fn zero() -> Sums {
+    fn zero(lapse: Option<Lapse>) -> Sums {
         Sums {
+            lapse,
             deposited: [[0; SECURITIES]; PARTICIPANTS],
             withdrawn: [[0; SECURITIES]; PARTICIPANTS],
             settled: [0; EXPOSURES],
@@ -42,7 +52,7 @@ impl Notes for Sums {
 
     /// "An opening sets all sums to 0."
     fn opened(&mut self) {
-        *self = Sums::zero();
+        *self = Sums::zero(self.lapse);
     }
 
     /// "A deposit adds to D, a withdrawal to W."
@@ -51,7 +61,9 @@ impl Notes for Sums {
     }
 
     fn withdrawn(&mut self, participant: usize, security: usize, nominal: u32) {
-        self.withdrawn[participant][security] += u64::from(nominal);
+        if self.lapse != Some(Lapse::Withdrawals) {
+            self.withdrawn[participant][security] += u64::from(nominal);
+        }
     }
 
     /// "A row given out starts with S, R and C at 0."
@@ -72,7 +84,9 @@ impl Notes for Sums {
     }
 
     fn closed(&mut self, exposure: usize, amount: u64) {
-        self.closed[exposure] += amount;
+        if self.lapse != Some(Lapse::Closings) {
+            self.closed[exposure] += amount;
+        }
     }
 }
 
@@ -85,7 +99,12 @@ pub struct Ledger {
 impl Ledger {
     /// The paper before the list, which begins with an accepted opening.
     pub fn new() -> Ledger {
-        Ledger { paper: Program::of(Book::zero()), sums: Box::new(Sums::zero()) }
+        Ledger { paper: Program::of(Book::zero()), sums: Box::new(Sums::zero(None)) }
+    }
+
+    /// A ledger that forgets.
+    pub fn wrong(lapse: Lapse) -> Ledger {
+        Ledger { sums: Box::new(Sums::zero(Some(lapse))), ..Ledger::new() }
     }
 
     /// "A call's code on paper is the one that the rules above give, 0 if none applies (1 and 2
@@ -110,9 +129,12 @@ impl Ledger {
         exposures
     }
 
-    /// Whether the steps left the amounts that the sums give.
+    /// Whether the steps left the amounts that the sums give; a row not in use has 0 on paper, whose
+    /// amount was returned or closed.
     pub fn agrees_with_its_steps(&self) -> bool {
-        self.paper.book.used_exposures().all(|(e, used)| used.amount == self.sums.amount(e))
+        let rows = self.paper.book.exposures.iter().enumerate();
+        let amount = |used: &Option<Exposure>| used.map_or(0, |used| used.amount);
+        rows.map(|(e, used)| (e, amount(used))).all(|(e, amount)| amount == self.sums.amount(e))
     }
 }
 

@@ -11,6 +11,11 @@ use super::SHAPE;
 /// The lines for an input.
 pub fn run(input: &[u8]) -> Vec<String> {
     let mut program = Program::new();
+    run_on(input, |record| program.call(record, &mut Silent))
+}
+
+/// The lines of any program whose book starts as zero bytes.
+pub fn run_on(input: &[u8], mut call: impl FnMut(&[u8]) -> Answer) -> Vec<String> {
     let mut lines = Vec::new();
     let mut rest = input;
     // At the end of the input nothing more is printed.
@@ -20,7 +25,7 @@ pub fn run(input: &[u8]) -> Vec<String> {
             Some(length) if length <= rest.len() => {
                 let (record, after) = rest.split_at(length);
                 rest = after;
-                program.call(record, &mut Silent)
+                call(record)
             }
             // Cut or unknown.
             _ => {

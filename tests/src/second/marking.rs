@@ -93,7 +93,10 @@ impl Program {
         self.take_in(exposure, giver, &picked);
         totals.b += u64::from(picked.count > 0 || self.takes(Turn::WrongBOfMark));
         let missing = used.amount.saturating_sub(self.value(&self.book.positions[exposure]));
-        totals.m += missing;
+        totals.m += match self.takes(Turn::MOfMarkBefore) {
+            true => used.amount - value,
+            false => missing,
+        };
         notes.reached(match (picked.count, missing) {
             (0, _) => Branch::MarkFoundNothing,
             (_, 0) => Branch::MarkCovered,
@@ -126,7 +129,8 @@ impl Program {
         if !self.takes(Turn::RecallKeepsSecurity) {
             map &= !(1 << security);
         }
-        let missing = used.amount.saturating_sub(self.value(&position));
+        let left = self.value(&position);
+        let missing = used.amount.saturating_sub(left);
         let picked = pick(&self.book, &account, map, missing);
         for s in 0..SECURITIES {
             account[s] -= picked.nominals[s];
@@ -137,7 +141,12 @@ impl Program {
         let covered =
             reach > used.amount || (reach == used.amount && self.takes(Turn::RecallOffByOne));
         let no_lower = after >= before && !self.takes(Turn::RecallIgnoresBefore);
-        if !covered && !no_lower {
+        let refused_wrongly = self.takes(Turn::False16) && after < used.amount;
+        if (!covered && !no_lower) || refused_wrongly {
+            if self.takes(Turn::RefusalWrites) {
+                self.book.accounts[giver] = account;
+                self.book.positions[exposure] = position;
+            }
             notes.reached(match picked.count {
                 0 => Branch::RecallRefused,
                 _ => Branch::RecallRefusedWithPick,
@@ -152,6 +161,7 @@ impl Program {
         });
         self.book.accounts[giver] = account;
         self.book.positions[exposure] = position;
-        Ok(Totals { a: 0, b: picked.count, m: picked.value })
+        let m = if self.takes(Turn::MOfRecallGrowth) { after - left } else { picked.value };
+        Ok(Totals { a: 0, b: picked.count, m })
     }
 }

@@ -59,6 +59,9 @@ impl Program {
                 }
             };
             if settled == 0 {
+                if pair.is_fop && self.takes(Turn::AOfSettleCountsDue) {
+                    totals.a += 1;
+                }
                 continue;
             }
             if request.cancelled || self.partner_of(&request).map_or(false, |p| p.cancelled) {

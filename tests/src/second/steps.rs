@@ -2,8 +2,9 @@
 
 use super::actions::{Action, Entry};
 use super::book::{Book, Exposure, Participant, Profile, Program, Request, Security, Side, Turn};
-use super::codes::{Pairing, UNSOUND};
+use super::codes::{Pairing, NO_ROW, UNSOUND};
 use super::notes::{Branch, Notes};
+use super::SHAPE;
 use crate::answers::Reading;
 use crate::plain;
 
@@ -37,7 +38,28 @@ impl Program {
         if record.first() != Some(&0) && !self.is_sound() {
             return refused(UNSOUND);
         }
-        self.take(record, notes)
+        if self.turn == Turn::Right {
+            return self.take(record, notes);
+        }
+        self.take_wrongly(record, notes)
+    }
+
+    /// The wrong turns that go for all kinds, and those of single kinds.
+    fn take_wrongly<N: Notes>(&mut self, record: &[u8], notes: &mut N) -> Answer {
+        let before = self.book.clone();
+        let answer = self.take(record, notes);
+        match self.turn {
+            Turn::OneCode => {
+                self.book = before;
+                refused(NO_ROW)
+            }
+            Turn::OneCodeForRefusals if answer[0] != 0 => refused(SHAPE),
+            Turn::BookNeverMoves if record[0] != 0 => {
+                self.book = before;
+                answer
+            }
+            _ => answer,
+        }
     }
 
     /// A call on a book that is known to be sound: 1 and 2 do not apply.
@@ -206,6 +228,9 @@ impl Program {
             Pairing::Made => self.place(Request { side: Side::Taker, ..request }),
         };
         self.pair(row, partner, notes);
+        if self.takes(Turn::BOfRequestIsRow) {
+            return Totals { a, b: partner as u64 + 1, m: 0 };
+        }
         let b = self.book.requests[partner].as_ref().map_or(0, |request| u64::from(request.number));
         Totals { a, b, m: 0 }
     }
