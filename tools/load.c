@@ -175,16 +175,20 @@ static void chain_batch(struct load *load)
     }
 }
 
-/* Journal first, flushed; then the calls count; then their lines. */
+/* Journal first, flushed; then the calls count; this is noted; then their lines. */
 static int end_batch(struct load *load)
 {
     if (load->count == 0)
         return DONE;
+    if (load->store.last_file < 0 && begin_last(&load->store) != DONE)
+        return not_ended(load, SYSTEM);
     chain_batch(load);
     if (append_places(&load->store.journal, load->bytes, load->count) != 0)
         return journal_failed(load);
     memcpy(load->store.book, load->book, YORDZEPA_BOOK);
     memcpy(load->store.chain, load->batch[load->count - 1].chain, DIGEST);
+    if (note_last(&load->store, load->bytes + (load->count - 1) * ENTRY) != DONE)
+        return not_ended(load, SYSTEM);
     for (size_t place = 0; place < load->count; place++)
         print_entry(load, &load->batch[place]);
     load->count = 0;
@@ -336,14 +340,13 @@ static int place_load(struct load *load, const uint64_t *after)
 
 static int end_load(struct load *load)
 {
-    int status = DONE;
+    int status;
 
     if (stopped_by) {
         complain("stopped by signal %d", (int)stopped_by);
         return not_ended(load, 128 + (int)stopped_by);
     }
-    if (!load->store.has_book || load->store.book_place != load->store.journal.places)
-        status = write_book(&load->store);
+    status = end_store(&load->store);
     if (status != DONE)
         return not_ended(load, status);
     if (load->broken) {
