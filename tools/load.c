@@ -366,12 +366,34 @@ static void tell_count(const struct load *load)
                  load->refused);
 }
 
+/*
+ * What a load that was killed left, the journal's name or entries after the book's place, may never
+ * have been flushed or noted. That is done before any of it is printed again or goes into the book.
+ */
+static int keep_rest(struct load *load)
+{
+    struct store *store = &load->store;
+
+    if (!store->has_book && flush_folder(store->journal_path) != 0) {
+        complain_of_file("flush the folder of", store->journal_path);
+        return SYSTEM;
+    }
+    if (store->book_place == store->journal.places)
+        return DONE;
+    if (flush_journal(&store->journal) == 0)
+        return begin_last(store);
+    complain_of_file("flush", store->journal_path);
+    return SYSTEM;
+}
+
 static int run_load(struct load *load, const uint64_t *after)
 {
     int status = reconcile(&load->store, 1);
 
     if (status == DONE)
         status = place_load(load, after);
+    if (status == DONE)
+        status = keep_rest(load);
     if (status != DONE)
         return status;
     memcpy(load->book, load->store.book, YORDZEPA_BOOK);

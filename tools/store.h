@@ -58,7 +58,8 @@ void complain_of_answer(const struct store *store, const struct entry *entry,
 /* Reads BOOK.last if there is one. The status is DONE, or SYSTEM with a message. */
 int read_last(struct store *store);
 
-/* Before the first batch: makes BOOK.last, for the journal's end. */
+/* Before the first batch, or the first line of an interrupted load that is repeated: makes BOOK.last,
+ * for the journal's end, all of which was flushed. */
 int begin_last(struct store *store);
 
 /* A batch that ends with this entry was flushed: notes it in BOOK.last. */

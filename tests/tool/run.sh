@@ -49,6 +49,14 @@ both() {
     return $result
 }
 
+# The crashes were begun before.
+end_crashes() {
+    result=0
+    wait $crashes || result=1
+    cat "$work/crashes"
+    return $result
+}
+
 # The commands once under valgrind: no error, no leak.
 under_valgrind() {
     check="valgrind -q --error-exitcode=99 --leak-check=full --show-leak-kinds=all --errors-for-leak-kinds=all"
@@ -93,10 +101,13 @@ plain=$PWD/build/yordzepa
 if [ "$part" != time ]; then
     step "compile with AddressSanitizer and UBSan" make tool LIBRARY="$LIBRARY" TOOL="$work/checked" \
         CFLAGS="-O1 -g -fsanitize=address,undefined -fno-sanitize-recover=all"
+    # It mostly waits for the disk, so the others run beside it.
+    tests "$plain" test_crash.py >"$work/crashes" 2>&1 &
+    crashes=$!
     for group in test_text test_load test_reads test_damage; do
         step "$group, plain and under the sanitizers" both $group.py
     done
-    step "200 kills, and a crash at every call" tests "$plain" test_crash.py
+    step "200 kills, and a crash at every call" end_crashes
     step "examples of docs/TOOL.md and README.md" tests "$plain" test_docs.py
     step "valgrind" under_valgrind
 fi

@@ -121,9 +121,28 @@ class EveryCall(Crash):
                 # A crash while the crash is mended.
                 again = self.crashed(at % 7 + 1, how, "--after=0")
                 self.assertIn(again.returncode, (DONE, -signal.SIGKILL))
-                self.check_files(again.stdout, True)
+                self.check_files(again.stdout, how in ("half", "lose"))
                 self.check_repeated()
                 self.restart()
+
+    def test_flushed_before_it_is_repeated(self):
+        """Killed after a batch was written and before it was flushed: the next load flushes it before
+        its lines are printed or the book is written."""
+        first = self.calls() - len("wdp" + "wfrf" + "u") + 1
+        self.assertEqual(self.crashed(first, "after").returncode, -signal.SIGKILL)
+        self.assertEqual(self.check_files(b""), self.count)
+        log = self.path("log")
+        done = self.crashed(0, "", "--after=0", CRASH_LOG=log)
+        self.assertEqual((done.returncode, done.stdout), (DONE, self.want))
+        self.assertEqual(self.read(log).decode(), "fd" + "tp" + "wfrf" + "u")
+        os.remove(log)
+        # Nothing is printed if it cannot be flushed.
+        self.restart()
+        self.crashed(first, "after")
+        for at in (1, 2):
+            done = self.crashed(at, errno.EIO, "--after=0")
+            self.assertEqual((done.returncode, done.stdout), (SYSTEM, b""))
+        self.check_repeated()
 
     def test_failed(self):
         """The same calls fail: a message, a status, and the load can be repeated."""
@@ -191,7 +210,7 @@ class Kills(Crash):
         self.check_repeated()
         print("\n%d kills, with %d different places reached, and %d loads that ended before the kill"
               % (kills, len(places), ended), end=" ")
-        self.assertGreater(len(places), 20)
+        self.assertGreater(len(places), 10)
         self.assertGreater(self.cuts, 0)
 
 
