@@ -1,14 +1,27 @@
 # Two commands do all the set-up: `make run` and `make test`. `make bench` measures.
-LIBRARIES = calendar valuation baskets picking records reads engine
+VERSION = 0.1.0
 
-# The operator's tool: its sources and the libraries it is linked with.
+# The crates with exported functions, each of which rt writes to an archive, and the one library of them all.
+CRATES = calendar valuation baskets picking records reads engine
 STATICLIB = target/staticlib
+ARCHIVES = $(CRATES:%=$(STATICLIB)/lib%.a)
+LIBRARY = build/libyordzepa.a
+
+# The operator's tool.
 TOOL_SOURCES = $(wildcard tools/*.c)
-TOOL_LIBRARIES = $(foreach name,calendar valuation baskets records reads engine,$(STATICLIB)/lib$(name).a)
 TOOL = build/yordzepa
 CFLAGS = -O2 -g
 
-.PHONY: run test fuzz bench bench-page libraries tool test-tool clean
+# Where `make install` puts the library, its header, the tool and its page. DESTDIR goes before each path.
+PREFIX = /usr/local
+prefix = $(abspath $(PREFIX))
+BINDIR = $(prefix)/bin
+LIBDIR = $(prefix)/lib
+INCLUDEDIR = $(prefix)/include
+MANDIR = $(prefix)/share/man
+PKGCONFIGDIR = $(LIBDIR)/pkgconfig
+
+.PHONY: run test fuzz bench bench-page libraries tool test-tool install uninstall clean
 
 # Proves the program and what it uses, and runs it on document 01's example.
 run:
@@ -26,30 +39,61 @@ test:
 fuzz: libraries
 	@cargo run --release --offline --locked --quiet --manifest-path tests/Cargo.toml --features engine --bin fuzz
 
-# The libraries for C and Rust: target/staticlib/lib*.a, declared in include/yordzepa.h.
+# The library for C and Rust: build/libyordzepa.a, declared in include/yordzepa.h. rt knows what is proved already.
 libraries:
-	@for name in $(LIBRARIES); do rt staticlib $$name >/dev/null || exit 1; done
+	@for name in $(CRATES); do rt staticlib $$name >/dev/null || exit 1; done
+	@$(MAKE) --no-print-directory -s $(LIBRARY)
+
+# One archive of the members of all: a host's linker takes those that the host calls.
+$(LIBRARY): $(ARCHIVES)
+	mkdir -p $(dir $@)
+	{ echo CREATE $@; printf 'ADDLIB %s\n' $(ARCHIVES); echo SAVE; echo END; } | $(AR) -M
+
+# An archive that is not there yet.
+target/staticlib/lib%.a:
+	rt staticlib $* >/dev/null
+
+target/bin/desk:
+	rt check desk
 
 # The operator's tool: build/yordzepa. docs/TOOL.md tells how it is used.
 tool: $(TOOL)
 
-$(TOOL): $(TOOL_SOURCES) $(wildcard tools/*.h) include/yordzepa.h $(TOOL_LIBRARIES)
+$(TOOL): $(TOOL_SOURCES) $(wildcard tools/*.h) include/yordzepa.h $(LIBRARY)
 	mkdir -p $(dir $@)
-	$(CC) -std=c11 -Wall -Wextra -Werror $(CFLAGS) -Iinclude -Itools $(TOOL_SOURCES) $(TOOL_LIBRARIES) -o $@
+	$(CC) -std=c11 -Wall -Wextra -Werror $(CFLAGS) -DVERSION='"$(VERSION)"' -Iinclude -Itools $(TOOL_SOURCES) $(LIBRARY) -o $@
 
-# A library that is not there yet.
-target/staticlib/lib%.a:
-	rt staticlib $* >/dev/null
+# The tool's page, from what the tool itself tells.
+build/yordzepa.1: $(TOOL) tools/man.sh
+	sh tools/man.sh $(TOOL) >$@
 
-# The tool's tests, the long part too.
+# A path below the prefix is written as such, so that pkg-config can move it along.
+below_prefix = $(patsubst $(prefix)/%,$${prefix}/%,$(1))
+
+install: $(LIBRARY) $(TOOL) build/yordzepa.1
+	install -d '$(DESTDIR)$(BINDIR)' '$(DESTDIR)$(PKGCONFIGDIR)' '$(DESTDIR)$(INCLUDEDIR)' '$(DESTDIR)$(MANDIR)/man1'
+	install -m 644 $(LIBRARY) '$(DESTDIR)$(LIBDIR)/libyordzepa.a'
+	install -m 644 include/yordzepa.h '$(DESTDIR)$(INCLUDEDIR)/yordzepa.h'
+	sed -e 's|@PREFIX@|$(prefix)|' -e 's|@LIBDIR@|$(call below_prefix,$(LIBDIR))|' \
+		-e 's|@INCLUDEDIR@|$(call below_prefix,$(INCLUDEDIR))|' -e 's|@VERSION@|$(VERSION)|' \
+		yordzepa.pc.in >'$(DESTDIR)$(PKGCONFIGDIR)/yordzepa.pc'
+	install -m 755 $(TOOL) '$(DESTDIR)$(BINDIR)/yordzepa'
+	install -m 644 build/yordzepa.1 '$(DESTDIR)$(MANDIR)/man1/yordzepa.1'
+
+uninstall:
+	rm -f '$(DESTDIR)$(LIBDIR)/libyordzepa.a' '$(DESTDIR)$(INCLUDEDIR)/yordzepa.h' \
+		'$(DESTDIR)$(PKGCONFIGDIR)/yordzepa.pc' '$(DESTDIR)$(BINDIR)/yordzepa' '$(DESTDIR)$(MANDIR)/man1/yordzepa.1'
+
+# The tool's tests, those that measure time too.
 test-tool: tool
 	sh tests/tool/run.sh
 
-# The proved functions beside plain Rust, the engine beside the second program, in one run: Markdown tables.
-bench: libraries
+# The proved functions beside plain Rust, the engine beside the second program, the tool beside its calls: Markdown tables.
+bench: libraries tool target/bin/desk
 	@printf '%s, %s processors; %s; %s.\n' "$$(lscpu | sed -n 's/^Model name: *//p')" "$$(nproc)" \
 		"$$(rustc --version | cut -d' ' -f1,2)" "$$(date -u +%Y-%m-%d)"
 	@cargo run --release --offline --locked --quiet --manifest-path tests/Cargo.toml --features engine --bin bench
+	@PYTHONDONTWRITEBYTECODE=1 python3 tests/tool/bench.py
 
 # The same, in place of the figures of docs/BENCHMARKS.md: all that stands below the line "## Figures".
 bench-page:

@@ -1,7 +1,8 @@
 /*
- * A minimal host: each library asked once or twice, one line printed for each answer.
+ * A minimal host: each part of the library asked once or twice, one line printed for each answer.
  *
- *   cc -std=c11 -Iinclude examples/host.c target/staticlib/lib*.a -o host
+ *   cc -std=c11 -Iinclude examples/host.c build/libyordzepa.a -o host
+ *   cc -std=c11 examples/host.c $(pkg-config --cflags --libs yordzepa) -o host     (installed)
  */
 #include <inttypes.h>
 #include <stdio.h>

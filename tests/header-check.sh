@@ -1,14 +1,14 @@
 #!/bin/sh
-# Holds include/yordzepa.h to what target/staticlib/*.a export: the same functions, the layout of
-# tests/layout.c, nothing wanted from outside but memcpy and memset, and no clash when all are
-# linked together. Runs from the repository's root or anywhere else.
+# Holds include/yordzepa.h to what build/libyordzepa.a exports: the same functions, the layout of
+# tests/layout.c, nothing wanted from outside but memcpy and memset, and no clash when all members
+# are linked together. Runs from the repository's root or anywhere else.
 set -eu
 LC_ALL=C
 export LC_ALL
 cd "$(dirname "$0")/.."
 
 CC=${CC:-cc}
-libraries="calendar valuation baskets picking records reads engine"
+library=build/libyordzepa.a
 work=$(mktemp -d)
 trap 'rm -rf "$work"' EXIT
 
@@ -17,17 +17,15 @@ fail() {
     exit 1
 }
 
-for name in $libraries; do
-    test -f "target/staticlib/lib$name.a" || fail "lib$name.a is missing: run 'rt staticlib $name'"
-done
+test -f "$library" || fail "$library is missing: run 'make libraries'"
 
-# What the libraries define for others.
-nm -g --defined-only target/staticlib/*.a | awk 'NF == 3 { print $2, $3 }' >"$work/defined"
+# What the library defines for others.
+nm -g --defined-only "$library" | awk 'NF == 3 { print $2, $3 }' >"$work/defined"
 awk '$1 != "T" { print $2 }' "$work/defined" >"$work/not-functions"
 test ! -s "$work/not-functions" || fail "exported but no function: $(cat "$work/not-functions")"
 awk '{ print $2 }' "$work/defined" | sort >"$work/exported"
 uniq -d "$work/exported" >"$work/twice"
-test ! -s "$work/twice" || fail "exported by two libraries: $(cat "$work/twice")"
+test ! -s "$work/twice" || fail "exported by two members: $(cat "$work/twice")"
 
 # What the header declares: the preprocessor takes the comments away, and only lines that come from
 # the header itself are looked at.
@@ -39,19 +37,14 @@ test -s "$work/declared" || fail "no function found in the header"
 comm -23 "$work/exported" "$work/declared" >"$work/undeclared"
 test ! -s "$work/undeclared" || fail "exported but not declared: $(cat "$work/undeclared")"
 comm -13 "$work/exported" "$work/declared" >"$work/missing"
-test ! -s "$work/missing" || fail "declared but in no library: $(cat "$work/missing")"
+test ! -s "$work/missing" || fail "declared but not in the library: $(cat "$work/missing")"
 
-# What the libraries want from outside.
-nm -u target/staticlib/*.a | awk '$1 == "U" { print $2 }' | sort -u | grep -Evx 'memcpy|memset' >"$work/wanted" || :
+# What the library wants from outside.
+nm -u "$library" | awk '$1 == "U" { print $2 }' | sort -u | grep -Evx 'memcpy|memset' >"$work/wanted" || :
 test ! -s "$work/wanted" || fail "wanted from outside: $(cat "$work/wanted")"
 
-# The layout, and all objects of all libraries in one program.
+# The layout, and all members in one program.
 "$CC" -std=c11 -Wall -Wextra -Werror -pedantic -Iinclude tests/layout.c \
-    -Wl,--whole-archive target/staticlib/*.a -Wl,--no-whole-archive -o "$work/layout"
-
-# C++ can include the header.
-if command -v "${CXX:-c++}" >/dev/null; then
-    "${CXX:-c++}" -Wall -Wextra -Werror -fsyntax-only -x c++ include/yordzepa.h
-fi
+    -Wl,--whole-archive "$library" -Wl,--no-whole-archive -o "$work/layout"
 
 echo "header-check: $(wc -l <"$work/declared" | tr -d ' ') functions declared and exported, layout as expected"

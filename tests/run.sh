@@ -1,7 +1,7 @@
 #!/bin/sh
-# All tests, in order, from the repository's root or anywhere else: the libraries are proved and
-# written, the header is held to them, the C host is compiled and run, and the second program is
-# compared with them. Ends at the first failure.
+# All tests, in order, from the repository's root or anywhere else: the library is proved and
+# written, the header is held to it, the C host is compiled and run, the second program is compared
+# with it, and the operator's tool is tried. Ends at the first failure.
 set -eu
 cd "$(dirname "$0")/.."
 
@@ -29,23 +29,25 @@ for library in calendar valuation baskets picking records reads engine; do
     step "rt staticlib $library" rt staticlib "$library"
 done
 
-step "header against the libraries" sh tests/header-check.sh
+step "one library of them all" make -s build/libyordzepa.a
+step "header against the library" sh tests/header-check.sh
 
 step "compile examples/host.c" \
-    "$CC" -std=c11 -Wall -Wextra -Werror -Iinclude examples/host.c target/staticlib/lib*.a -o "$work/host"
+    "$CC" -std=c11 -Wall -Wextra -Werror -Iinclude examples/host.c build/libyordzepa.a -o "$work/host"
 run_host() {
     "$work/host" >"$work/host.stdout" && diff examples/host.stdout "$work/host.stdout"
 }
 step "run examples/host.c" run_host
+step "install, hosts by pkg-config, uninstall" sh tests/install.sh
 
 step "compile tests/stack.c" \
-    "$CC" -std=c11 -O1 -Wall -Wextra -Werror -Iinclude tests/stack.c target/staticlib/lib*.a -o "$work/stack"
+    "$CC" -std=c11 -O1 -Wall -Wextra -Werror -Iinclude tests/stack.c build/libyordzepa.a -o "$work/stack"
 step "stack of a call" "$work/stack"
 
 # Not the libraries but what this host does with them; tests/guard.c says what is seen and what not.
 step "compile tests/guard.c" \
     "$CC" -std=c11 -O1 -g -Wall -Wextra -Werror -fsanitize=address,undefined -fno-sanitize-recover=all \
-    -Iinclude tests/guard.c target/staticlib/lib*.a -o "$work/guard"
+    -Iinclude tests/guard.c build/libyordzepa.a -o "$work/guard"
 step "sanitizers around lent memory" "$work/guard"
 
 for file in tests/tests/*.rs; do
@@ -54,5 +56,5 @@ for file in tests/tests/*.rs; do
         cargo test --release --offline --locked --quiet --manifest-path tests/Cargo.toml --features engine --test "$library"
 done
 
-# The operator's tool: all but the kills, which `make test-tool` adds.
-sh tests/tool/run.sh quick
+# The operator's tool: all but what measures time, which `make test-tool` adds.
+sh tests/tool/run.sh gate

@@ -68,6 +68,9 @@ static int audit_entry(struct audit *audit, const struct entry *entry)
         complain_of_answer(&audit->store, entry, answer);
         return DIFFERS;
     }
+    if (entry->place == audit->store.flushed_place &&
+        memcmp(walked_bytes(&audit->walk), audit->store.flushed, ENTRY) != 0)
+        return differs_at(audit, "the entry is not the one that had been flushed");
     if (audit->store.has_book && entry->place == audit->store.book_place)
         return compare_book(audit, walked_bytes(&audit->walk));
     return DONE;
@@ -76,8 +79,8 @@ static int audit_entry(struct audit *audit, const struct entry *entry)
 /* The walk came to an entry that is wrong: a crash's work, or a difference. */
 static int wrong_entry(const struct audit *audit, uint64_t last, const char *why)
 {
-    if (last >= audit->store.book_place && is_blank(walked_bytes(&audit->walk)) &&
-        is_torn(&audit->store.journal, last + 1) > 0)
+    if (last >= audit->store.book_place && last >= audit->store.flushed_place &&
+        is_blank(walked_bytes(&audit->walk)) && is_torn(&audit->store.journal, last + 1) > 0)
         return DONE;
     return differs_at(audit, why);
 }
@@ -113,6 +116,12 @@ static int audit_end(const struct audit *audit, uint64_t last)
     if (store->book_place > last) {
         complain("%s, place %" PRIu64 ": the journal ends here, but the book stands for place "
                  "%" PRIu64 ": the journal is cut", store->journal_path, last, store->book_place);
+        return DIFFERS;
+    }
+    if (store->flushed_place > last) {
+        complain("%s, place %" PRIu64 ": the journal ends here, but had been flushed up to place "
+                 "%" PRIu64 ", as %s tells: the journal is cut", store->journal_path, last,
+                 store->flushed_place, store->last_path);
         return DIFFERS;
     }
     if (!is_whole && is_torn(&store->journal, last + 1) <= 0)

@@ -177,8 +177,7 @@ static int make_header(struct journal *journal)
 
     journal_header(header);
     if (ftruncate(journal->file, 0) != 0 || lseek(journal->file, 0, SEEK_SET) < 0 ||
-        write_fully(journal->file, header, ENTRY) != 0 || fsync(journal->file) != 0 ||
-        flush_folder(journal->path) != 0) {
+        write_fully(journal->file, header, ENTRY) != 0 || fsync(journal->file) != 0) {
         complain_of_file("write", journal->path);
         return SYSTEM;
     }
@@ -258,12 +257,12 @@ int read_places(const struct journal *journal, uint64_t place, size_t count, uin
     return 0;
 }
 
-static int flush(int file)
+int flush_journal(const struct journal *journal)
 {
     int result;
 
     do
-        result = fdatasync(file);
+        result = fdatasync(journal->file);
     while (result != 0 && errno == EINTR);
     return result;
 }
@@ -272,7 +271,7 @@ int cut_journal(struct journal *journal, uint64_t place)
 {
     uint64_t length = (place + 1) * ENTRY;
 
-    if (ftruncate(journal->file, (off_t)length) != 0 || flush(journal->file) != 0)
+    if (ftruncate(journal->file, (off_t)length) != 0 || flush_journal(journal) != 0)
         return -1;
     journal->length = length;
     journal->places = place;
@@ -284,7 +283,7 @@ int append_places(struct journal *journal, const uint8_t *bytes, size_t count)
     int kept;
 
     if (lseek(journal->file, (off_t)journal->length, SEEK_SET) >= 0 &&
-        write_fully(journal->file, bytes, count * ENTRY) == 0 && flush(journal->file) == 0) {
+        write_fully(journal->file, bytes, count * ENTRY) == 0 && flush_journal(journal) == 0) {
         journal->length += count * ENTRY;
         journal->places += count;
         return 0;

@@ -73,6 +73,9 @@ void close_journal(struct journal *journal);
 /* Reads the bytes of count entries from a place on. 0, or -1 with errno set. */
 int read_places(const struct journal *journal, uint64_t place, size_t count, uint8_t *bytes);
 
+/* Flushes what the journal has. 0, or -1 with errno set. */
+int flush_journal(const struct journal *journal);
+
 /* Appends entries and flushes them. 0, or -1 with errno set, and then nothing is appended. */
 int append_places(struct journal *journal, const uint8_t *bytes, size_t count);
 

@@ -23,8 +23,9 @@ static const char help[] =
     "\n"
     "Applies records to the book in the file BOOK and prints a line for each: place from 1, kind,\n"
     "code, A, B, M. Every call and its answer goes into BOOK.journal, and is flushed to the disk\n"
-    "before its line is printed. Where there is no book, a new one is made. RECORDS is a file;\n"
-    "without it, or as '-', standard input is read.\n"
+    "before its line is printed. Until the load has ended, BOOK.last tells how far it was flushed.\n"
+    "Where there is no book, a new one is made. RECORDS is a file; without it, or as '-', standard\n"
+    "input is read.\n"
     "\n"
     "  -a, --after=PLACE   the first record's place is PLACE + 1. Records that the journal already\n"
     "                      has after PLACE are compared with it and not applied again, but their\n"
@@ -175,16 +176,20 @@ static void chain_batch(struct load *load)
     }
 }
 
-/* Journal first, flushed; then the calls count; then their lines. */
+/* Journal first, flushed; then the calls count; this is noted; then their lines. */
 static int end_batch(struct load *load)
 {
     if (load->count == 0)
         return DONE;
+    if (load->store.last_file < 0 && begin_last(&load->store) != DONE)
+        return not_ended(load, SYSTEM);
     chain_batch(load);
     if (append_places(&load->store.journal, load->bytes, load->count) != 0)
         return journal_failed(load);
     memcpy(load->store.book, load->book, YORDZEPA_BOOK);
     memcpy(load->store.chain, load->batch[load->count - 1].chain, DIGEST);
+    if (note_last(&load->store, load->bytes + (load->count - 1) * ENTRY) != DONE)
+        return not_ended(load, SYSTEM);
     for (size_t place = 0; place < load->count; place++)
         print_entry(load, &load->batch[place]);
     load->count = 0;
@@ -336,14 +341,13 @@ static int place_load(struct load *load, const uint64_t *after)
 
 static int end_load(struct load *load)
 {
-    int status = DONE;
+    int status;
 
     if (stopped_by) {
         complain("stopped by signal %d", (int)stopped_by);
         return not_ended(load, 128 + (int)stopped_by);
     }
-    if (!load->store.has_book || load->store.book_place != load->store.journal.places)
-        status = write_book(&load->store);
+    status = end_store(&load->store);
     if (status != DONE)
         return not_ended(load, status);
     if (load->broken) {
@@ -363,12 +367,34 @@ static void tell_count(const struct load *load)
                  load->refused);
 }
 
+/*
+ * What a load that was killed left, the journal's name or entries after the book's place, may never
+ * have been flushed or noted. That is done before any of it is printed again or goes into the book.
+ */
+static int keep_rest(struct load *load)
+{
+    struct store *store = &load->store;
+
+    if (!store->has_book && flush_folder(store->journal_path) != 0) {
+        complain_of_file("flush the folder of", store->journal_path);
+        return SYSTEM;
+    }
+    if (store->book_place == store->journal.places)
+        return DONE;
+    if (flush_journal(&store->journal) == 0)
+        return begin_last(store);
+    complain_of_file("flush", store->journal_path);
+    return SYSTEM;
+}
+
 static int run_load(struct load *load, const uint64_t *after)
 {
     int status = reconcile(&load->store, 1);
 
     if (status == DONE)
         status = place_load(load, after);
+    if (status == DONE)
+        status = keep_rest(load);
     if (status != DONE)
         return status;
     memcpy(load->book, load->store.book, YORDZEPA_BOOK);

@@ -18,9 +18,9 @@ static const char help[] =
     "  pairs    why each request was paired with that one, from the journal\n"
     "  audit    replay the journal and compare every answer and the book\n"
     "\n"
-    "'yordzepa COMMAND --help' tells more. Status: 0 done, 1 audit found a difference, 2 wrong\n"
-    "command line, 3 wrong input, 4 book or journal damaged, 5 a file cannot be read or written,\n"
-    "6 the book is in use, 7 the last load did not end.\n";
+    "'yordzepa COMMAND --help' tells more, 'yordzepa --version' the version. Status: 0 done, 1 audit\n"
+    "found a difference, 2 wrong command line, 3 wrong input, 4 book or journal damaged, 5 a file\n"
+    "cannot be read or written, 6 the book is in use, 7 the last load did not end.\n";
 
 struct command {
     const char *name;
@@ -47,6 +47,10 @@ int main(int count, char **words)
     }
     if (strcmp(words[1], "--help") == 0 || strcmp(words[1], "-h") == 0) {
         fputs(help, stdout);
+        return end_output();
+    }
+    if (strcmp(words[1], "--version") == 0) {
+        puts("yordzepa " VERSION);
         return end_output();
     }
     ignore_signals_of_writes();

@@ -6,7 +6,6 @@
 
 #include <inttypes.h>
 #include <stdio.h>
-#include <stdlib.h>
 #include <string.h>
 #include <unistd.h>
 
@@ -39,9 +38,8 @@ void begin_progress(struct progress *progress, uint64_t total)
     memset(progress, 0, sizeof *progress);
     progress->wanted = isatty(STDERR_FILENO) && !isatty(STDOUT_FILENO);
     progress->total = total;
-    /* A test sets the variable, so that it need not count on the load's time. */
     if (progress->wanted)
-        wait_from_now(progress, getenv("YORDZEPA_BAR_AT_ONCE") ? 0 : FIRST_WAIT);
+        wait_from_now(progress, FIRST_WAIT);
 }
 
 void show_progress(struct progress *progress, uint64_t done, uint64_t records)

@@ -11,6 +11,7 @@
 #include <stdio.h>
 #include <stdlib.h>
 #include <string.h>
+#include <sys/stat.h>
 #include <unistd.h>
 
 #include "files.h"
@@ -51,24 +52,30 @@ static int check_length(const struct store *store, long length)
     return DAMAGED;
 }
 
-/* A book's name may be a link; the files stand where it leads. */
+/* A book's name may be a link; the files stand where it leads. Else messages have it as it was given. */
 static char *resolved(const char *path)
 {
-    char *real = realpath(path, NULL);
+    struct stat facts;
+    char *real = lstat(path, &facts) == 0 && S_ISLNK(facts.st_mode) ? realpath(path, NULL) : NULL;
 
     return real ? real : joined(path, "");
 }
 
 static int missing_journal(const struct store *store, int to_load)
 {
-    if (access(store->journal_path, F_OK) == 0 || (to_load && !store->has_book))
+    int is_begun = store->has_book || access(store->last_path, F_OK) == 0;
+
+    if (access(store->journal_path, F_OK) == 0 || (to_load && !is_begun))
         return DONE;
     if (store->has_book)
         complain("%s has no journal: %s is not there; put it back", store->book_path,
                  store->journal_path);
+    else if (is_begun)
+        complain("a load of %s had begun, but %s is not there; put it back, or remove %s to begin "
+                 "anew", store->book_path, store->journal_path, store->last_path);
     else
         complain("there is no book %s; 'yordzepa load' makes one", store->book_path);
-    return store->has_book ? DAMAGED : SYSTEM;
+    return is_begun ? DAMAGED : SYSTEM;
 }
 
 int open_store(struct store *store, const char *path, int to_load)
@@ -78,8 +85,10 @@ int open_store(struct store *store, const char *path, int to_load)
 
     memset(store, 0, sizeof *store);
     store->journal.file = -1;
+    store->last_file = -1;
     store->book_path = resolved(path);
     store->journal_path = joined(store->book_path, ".journal");
+    store->last_path = joined(store->book_path, ".last");
     store->has_book = access(store->book_path, F_OK) == 0;
     status = missing_journal(store, to_load);
     if (status == DONE)
@@ -90,14 +99,19 @@ int open_store(struct store *store, const char *path, int to_load)
         status = read_book(store, &length);
     if (status == DONE)
         status = check_length(store, length);
+    if (status == DONE)
+        status = read_last(store);
     return status;
 }
 
 void close_store(struct store *store)
 {
     close_journal(&store->journal);
+    if (store->last_file >= 0)
+        close(store->last_file);
     free(store->book_path);
     free(store->journal_path);
+    free(store->last_path);
 }
 
 /* ---- The book and its place ---- */
@@ -162,6 +176,79 @@ static int place_book(struct store *store)
     return DONE;
 }
 
+/* ---- The last entry that was flushed ---- */
+
+/* What a crash of the machine left of it may be empty, blank or half: then it tells nothing. */
+int read_last(struct store *store)
+{
+    int file = open(store->last_path, O_RDONLY | O_CLOEXEC);
+    uint8_t bytes[ENTRY + 1];
+    struct entry entry;
+    long length;
+
+    if (file < 0 && errno == ENOENT)
+        return DONE;
+    length = file < 0 ? -1 : read_fully(file, bytes, sizeof bytes);
+    if (length < 0)
+        complain_of_file("read", store->last_path);
+    if (file >= 0)
+        close(file);
+    if (length == ENTRY && !read_entry(bytes, &entry)) {
+        memcpy(store->flushed, bytes, ENTRY);
+        store->flushed_place = entry.place;
+    }
+    return length < 0 ? SYSTEM : DONE;
+}
+
+/* The journal has what had been flushed. */
+static int check_last(const struct store *store)
+{
+    uint8_t entry[ENTRY];
+
+    if (store->flushed_place == 0)
+        return DONE;
+    if (store->flushed_place > store->journal.places) {
+        complain("%s ends at place %" PRIu64 ", but had been flushed up to place %" PRIu64 ", as "
+                 "%s tells: the journal is cut; put back the whole journal, or, if an older one is "
+                 "wanted, remove %s", store->journal_path, store->journal.places,
+                 store->flushed_place, store->last_path, store->last_path);
+        return DAMAGED;
+    }
+    if (read_places(&store->journal, store->flushed_place, 1, entry) != 0) {
+        complain_of_file("read", store->journal_path);
+        return SYSTEM;
+    }
+    if (memcmp(entry, store->flushed, ENTRY) == 0)
+        return DONE;
+    complain("%s, place %" PRIu64 ": the entry is not the one that had been flushed, as %s tells; "
+             "put back the journal", store->journal_path, store->flushed_place, store->last_path);
+    return DAMAGED;
+}
+
+int note_last(struct store *store, const uint8_t entry[ENTRY])
+{
+    if (pwrite(store->last_file, entry, ENTRY, 0) == ENTRY)
+        return DONE;
+    complain_of_file("write", store->last_path);
+    return SYSTEM;
+}
+
+int begin_last(struct store *store)
+{
+    uint8_t entry[ENTRY];
+
+    if (read_places(&store->journal, store->journal.places, 1, entry) != 0) {
+        complain_of_file("read", store->journal_path);
+        return SYSTEM;
+    }
+    store->last_file = open(store->last_path, O_WRONLY | O_CREAT | O_CLOEXEC, 0666);
+    if (store->last_file < 0 || ftruncate(store->last_file, ENTRY) != 0) {
+        complain_of_file("write", store->last_path);
+        return SYSTEM;
+    }
+    return note_last(store, entry);
+}
+
 /* ---- The journal's end ---- */
 
 /* Where a walk after the book's place ended. */
@@ -213,7 +300,7 @@ static int find_end(struct store *store, int to_load)
     if (end.step == AT_END && end.last == store->journal.places &&
         store->journal.length % ENTRY == 0)
         return DONE;
-    if (end.step == AT_END || end.blank)
+    if ((end.step == AT_END || end.blank) && end.last >= store->flushed_place)
         torn = is_torn(&store->journal, end.last + 1);
     if (end.step == UNREADABLE || torn < 0) {
         complain_of_file("read", store->journal_path);
@@ -284,13 +371,15 @@ int reconcile(struct store *store, int to_load)
     int status = place_book(store);
 
     if (status == DONE)
+        status = check_last(store);
+    if (status == DONE)
         status = find_end(store, to_load);
     if (status == DONE)
         status = replay_rest(store);
     return status;
 }
 
-int write_book(struct store *store)
+static int write_book(struct store *store)
 {
     int status;
 
@@ -305,4 +394,16 @@ int write_book(struct store *store)
         store->book_place = store->journal.places;
     }
     return status;
+}
+
+int end_store(struct store *store)
+{
+    int status = DONE;
+
+    if (!store->has_book || store->book_place != store->journal.places)
+        status = write_book(store);
+    if (status != DONE || unlink(store->last_path) == 0 || errno == ENOENT)
+        return status;
+    complain_of_file("remove", store->last_path);
+    return SYSTEM;
 }

@@ -1,5 +1,4 @@
-//! The proved engine as a desk, linked from libengine.a with the feature `engine`, and the
-//! proved reads, linked from libreads.a with the feature `reads`.
+//! The proved engine as a desk (the feature `engine`), and the proved reads (the feature `reads`).
 
 use crate::desk::{Desk, SecondDesk};
 #[cfg(feature = "engine")]

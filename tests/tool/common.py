@@ -135,6 +135,13 @@ class Case(unittest.TestCase):
         self.addCleanup(shutil.rmtree, self.folder, ignore_errors=True)
         self.book = self.path("desk.book")
         self.journal = self.book + ".journal"
+        self.last = self.book + ".last"
+
+    def restart(self):
+        """No book, no journal."""
+        for path in (self.book, self.journal, self.last, self.book + ".new"):
+            if os.path.exists(path):
+                os.remove(path)
 
     def path(self, name):
         return os.path.join(self.folder, name)

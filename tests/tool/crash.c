@@ -7,7 +7,8 @@
  *               half: a write is done by half, then the process is killed
  *               lose: killed before the call, and what no call has flushed is lost too
  *               a number: the call fails with this errno
- *   CRASH_LOG   a file that gets a byte for each such call
+ *   CRASH_LOG   a file that gets a letter for each such call: w write, p pwrite, f fsync,
+ *               d fdatasync, t ftruncate, r rename, u unlink
  */
 #define _GNU_SOURCE
 #include <dlfcn.h>
@@ -55,7 +56,7 @@ static void lose(void)
 }
 
 /* Counts a call; 1 if it is the one. */
-static int is_the_one(void)
+static int is_the_one(char letter)
 {
     static long count;
     const char *at = getenv("CRASH_AT"), *log = getenv("CRASH_LOG");
@@ -65,7 +66,7 @@ static int is_the_one(void)
         int file = open(log, O_WRONLY | O_CREAT | O_APPEND, 0666);
         ssize_t (*put)(int, const void *, size_t) =
             (ssize_t(*)(int, const void *, size_t))real("write");
-        put(file, ".", 1);
+        put(file, &letter, 1);
         close(file);
     }
     return at && count == atol(at);
@@ -114,6 +115,12 @@ static void note_flush(int file)
         flushed[file] = facts.st_size;
 }
 
+/* How much of a write is done. */
+static size_t part(int is_one, size_t length)
+{
+    return is_one && strcmp(how(), "half") == 0 ? length / 2 : length;
+}
+
 ssize_t write(int file, const void *bytes, size_t length)
 {
     ssize_t (*put)(int, const void *, size_t) =
@@ -124,18 +131,33 @@ ssize_t write(int file, const void *bytes, size_t length)
     if (file == 1 || file == 2)
         return put(file, bytes, length);
     note_write(file);
-    is_one = is_the_one();
+    is_one = is_the_one('w');
     if (begin(is_one))
         return -1;
-    result = put(file, bytes, is_one && strcmp(how(), "half") == 0 ? length / 2 : length);
+    result = put(file, bytes, part(is_one, length));
     end(is_one);
     return result;
 }
 
-static int flush(const char *name, int file)
+ssize_t pwrite(int file, const void *bytes, size_t length, off_t at)
+{
+    ssize_t (*put)(int, const void *, size_t, off_t) =
+        (ssize_t(*)(int, const void *, size_t, off_t))real("pwrite");
+    int is_one = is_the_one('p');
+    ssize_t result;
+
+    note_write(file);
+    if (begin(is_one))
+        return -1;
+    result = put(file, bytes, part(is_one, length), at);
+    end(is_one);
+    return result;
+}
+
+static int flush(const char *name, char letter, int file)
 {
     int (*flush_real)(int) = (int (*)(int))real(name);
-    int is_one = is_the_one(), result;
+    int is_one = is_the_one(letter), result;
 
     if (begin(is_one))
         return -1;
@@ -148,18 +170,18 @@ static int flush(const char *name, int file)
 
 int fsync(int file)
 {
-    return flush("fsync", file);
+    return flush("fsync", 'f', file);
 }
 
 int fdatasync(int file)
 {
-    return flush("fdatasync", file);
+    return flush("fdatasync", 'd', file);
 }
 
 int ftruncate(int file, off_t length)
 {
     int (*cut)(int, off_t) = (int (*)(int, off_t))real("ftruncate");
-    int is_one = is_the_one(), result;
+    int is_one = is_the_one('t'), result;
 
     note_write(file);
     if (begin(is_one))
@@ -174,11 +196,23 @@ int ftruncate(int file, off_t length)
 int rename(const char *old, const char *new)
 {
     int (*move)(const char *, const char *) = (int (*)(const char *, const char *))real("rename");
-    int is_one = is_the_one(), result;
+    int is_one = is_the_one('r'), result;
 
     if (begin(is_one))
         return -1;
     result = move(old, new);
+    end(is_one);
+    return result;
+}
+
+int unlink(const char *path)
+{
+    int (*take)(const char *) = (int (*)(const char *))real("unlink");
+    int is_one = is_the_one('u'), result;
+
+    if (begin(is_one))
+        return -1;
+    result = take(path);
     end(is_one);
     return result;
 }

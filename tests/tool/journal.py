@@ -103,3 +103,13 @@ def check_book(data, journal):
     assert copy == journal[place * ENTRY:(place + 1) * ENTRY]
     assert Entry(copy).sum == book_sum(book)
     return book
+
+
+def flushed_place(last, journal):
+    """The place up to which BOOK.last says that the journal was flushed, or 0 if it tells nothing."""
+    if len(last) != ENTRY or last[88:96] != sha(last[:88])[:8]:
+        return 0
+    entry = Entry(last)
+    assert entry.after == 0
+    assert last == journal[entry.place * ENTRY:(entry.place + 1) * ENTRY]
+    return entry.place

@@ -1,13 +1,13 @@
 #!/bin/sh
-# The tool's tests, from the repository's root or anywhere else. 'quick' leaves out the kills and the
-# times, 'long' does them alone. Ends at the first failure. Needs cc, make, python3 and valgrind.
+# The tool's tests, from the repository's root or anywhere else. 'gate' leaves out what measures time,
+# 'time' does it alone. Ends at the first failure. Needs cc, make, python3 and valgrind.
 set -eu
 cd "$(dirname "$0")/../.."
 
 CC=${CC:-cc}
 export CC
-STATICLIB=${STATICLIB:-target/staticlib}
-export STATICLIB
+LIBRARY=${LIBRARY:-build/libyordzepa.a}
+export LIBRARY
 part=${1:-all}
 work=$(mktemp -d)
 trap 'rm -rf "$work"' EXIT
@@ -49,6 +49,14 @@ both() {
     return $result
 }
 
+# The crashes were begun before.
+end_crashes() {
+    result=0
+    wait $crashes || result=1
+    cat "$work/crashes"
+    return $result
+}
+
 # The commands once under valgrind: no error, no leak.
 under_valgrind() {
     check="valgrind -q --error-exitcode=99 --leak-check=full --show-leak-kinds=all --errors-for-leak-kinds=all"
@@ -87,20 +95,23 @@ wrong() {
     "$@" && return 1 || test $? -eq "$status"
 }
 
-step "make tool" make tool STATICLIB="$STATICLIB"
+step "make tool" make tool LIBRARY="$LIBRARY"
 plain=$PWD/build/yordzepa
 
-if [ "$part" != long ]; then
-    step "compile with AddressSanitizer and UBSan" make tool STATICLIB="$STATICLIB" TOOL="$work/checked" \
+if [ "$part" != time ]; then
+    step "compile with AddressSanitizer and UBSan" make tool LIBRARY="$LIBRARY" TOOL="$work/checked" \
         CFLAGS="-O1 -g -fsanitize=address,undefined -fno-sanitize-recover=all"
+    # It mostly waits for the disk, so the others run beside it.
+    tests "$plain" test_crash.py >"$work/crashes" 2>&1 &
+    crashes=$!
     for group in test_text test_load test_reads test_damage; do
         step "$group, plain and under the sanitizers" both $group.py
     done
-    step "examples of docs/TOOL.md" tests "$plain" test_docs.py
+    step "200 kills, and a crash at every call" end_crashes
+    step "examples of docs/TOOL.md and README.md" tests "$plain" test_docs.py
     step "valgrind" under_valgrind
 fi
-if [ "$part" != quick ]; then
+if [ "$part" != gate ]; then
     # It measures time, so the gate leaves it out.
     step "test_speed" tests "$plain" test_speed.py
-    step "test_crash" tests "$plain" test_crash.py
 fi

@@ -9,8 +9,10 @@ import tempfile
 import time
 import unittest
 
+import bench
 import journal
-from common import BOOK, DONE, INTERRUPTED, SYSTEM, TOOL, Case, days, run
+from common import (BOOK, DAMAGED, DIFFERS, DONE, ENTRY, INTERRUPTED, SYSTEM, TOOL, Case, days,
+                    run)
 
 KILLS = int(os.environ.get("KILLS", "200"))
 
@@ -30,13 +32,9 @@ class Crash(Case):
         self.want_journal = self.read(self.journal)
         self.restart()
 
-    def restart(self):
-        for path in (self.book, self.journal, self.book + ".new"):
-            if os.path.exists(path):
-                os.remove(path)
-
-    def check_files(self, printed):
-        """What was printed is in the journal, and the book is one of the journal's."""
+    def check_files(self, printed, machine=False):
+        """What was printed is in the journal, and the book is one of the journal's. If the machine
+        did not crash, BOOK.last has it too."""
         whole = printed[:printed.rfind(b"\n") + 1]
         self.assertTrue(self.want.startswith(printed))
         kept = b""
@@ -45,9 +43,33 @@ class Crash(Case):
             kept = "".join(entry.line() for entry in found).encode()
         self.assertTrue(self.want.startswith(kept))
         self.assertTrue(kept.startswith(whole), "lines were printed that the journal has not")
+        place = 0
         if os.path.exists(self.book):
             journal.check_book(self.read(self.book), self.read(self.journal))
+            place = int.from_bytes(self.read(self.book)[BOOK:BOOK + 8], "big")
+        if os.path.exists(self.last):
+            place = max(place, journal.flushed_place(self.read(self.last), self.read(self.journal)))
+        if not machine:
+            self.assertGreaterEqual(place, whole.count(b"\n"), "lines were printed that no file names")
         return kept.count(b"\n")
+
+    def check_cuts(self, places):
+        """Whole batches cut off or made zeros after a kill are found, and nothing is changed."""
+        data, book = self.read(self.journal), os.path.exists(self.book) and self.read(self.book)
+        for place in places:
+            cut = data[:(place + 1) * ENTRY]
+            for changed in (cut, cut + bytes(len(data) - len(cut))):
+                self.write("desk.book.journal", changed)
+                for command in ("load", "show", "pairs"):
+                    self.assertEqual(run(command, self.book, data=b"")[0], DAMAGED, place)
+                self.assertEqual(run("audit", self.book)[0], DIFFERS, place)
+                self.assertEqual(self.read(self.journal), changed)
+        os.remove(self.journal)
+        for command in ("load", "show", "pairs"):
+            self.assertEqual(run(command, self.book, data=b"")[0], DAMAGED)
+        self.assertFalse(os.path.exists(self.journal))
+        self.write("desk.book.journal", data)
+        self.assertEqual(os.path.exists(self.book) and self.read(self.book), book)
 
     def check_repeated(self):
         """The load is repeated, and all is as without a crash."""
@@ -58,17 +80,14 @@ class Crash(Case):
     def check_end(self):
         self.assertEqual(self.read(self.book)[:BOOK], self.want_book[:BOOK])
         self.done("audit", self.book)
-        self.assertFalse(os.path.exists(self.book + ".new"))
+        self.assertFalse(os.path.exists(self.book + ".new") or os.path.exists(self.last))
 
 
 class EveryCall(Crash):
     @classmethod
     def setUpClass(cls):
         cls.work = tempfile.mkdtemp(prefix="yordzepa-")
-        cls.shim = os.path.join(cls.work, "crash.so")
-        source = os.path.join(os.path.dirname(os.path.abspath(__file__)), "crash.c")
-        subprocess.run([os.environ.get("CC", "cc"), "-shared", "-fPIC", "-O1", source, "-o",
-                        cls.shim, "-ldl"], check=True)
+        cls.shim = bench.crash_library(cls.work)
 
     @classmethod
     def tearDownClass(cls):
@@ -81,27 +100,49 @@ class EveryCall(Crash):
                                        CRASH_HOW=str(how), **env))
 
     def calls(self):
+        """How many calls change a file in a load of 5 batches: the journal is made, BOOK.last
+        begins, each batch is written, flushed once and noted, the book is replaced, BOOK.last goes."""
         log = self.path("log")
         self.assertEqual(self.crashed(0, "", CRASH_LOG=log).returncode, DONE)
-        count = len(self.read(log))
+        letters = self.read(log).decode()
+        self.assertEqual(letters, "twff" + "tp" + 5 * "wdp" + "wfrf" + "u")
         os.remove(log)
         self.restart()
-        return count
+        return len(letters)
 
     def test_killed(self):
         count = self.calls()
-        self.assertGreater(count, 15)
         for how in ("before", "after", "half", "lose"):
             for at in range(1, count + 1):
                 done = self.crashed(at, how)
                 self.assertEqual(done.returncode, -signal.SIGKILL, (at, how))
-                self.check_files(done.stdout)
+                # No kill leaves half of BOOK.last: that stands for the machine's crash too.
+                self.check_files(done.stdout, how in ("half", "lose"))
                 # A crash while the crash is mended.
-                again = self.crashed(at % 5 + 1, how, "--after=0")
+                again = self.crashed(at % 7 + 1, how, "--after=0")
                 self.assertIn(again.returncode, (DONE, -signal.SIGKILL))
-                self.check_files(again.stdout)
+                self.check_files(again.stdout, how in ("half", "lose"))
                 self.check_repeated()
                 self.restart()
+
+    def test_flushed_before_it_is_repeated(self):
+        """Killed after a batch was written and before it was flushed: the next load flushes it before
+        its lines are printed or the book is written."""
+        first = self.calls() - len("wdp" + "wfrf" + "u") + 1
+        self.assertEqual(self.crashed(first, "after").returncode, -signal.SIGKILL)
+        self.assertEqual(self.check_files(b""), self.count)
+        log = self.path("log")
+        done = self.crashed(0, "", "--after=0", CRASH_LOG=log)
+        self.assertEqual((done.returncode, done.stdout), (DONE, self.want))
+        self.assertEqual(self.read(log).decode(), "fd" + "tp" + "wfrf" + "u")
+        os.remove(log)
+        # Nothing is printed if it cannot be flushed.
+        self.restart()
+        self.crashed(first, "after")
+        for at in (1, 2):
+            done = self.crashed(at, errno.EIO, "--after=0")
+            self.assertEqual((done.returncode, done.stdout), (SYSTEM, b""))
+        self.check_repeated()
 
     def test_failed(self):
         """The same calls fail: a message, a status, and the load can be repeated."""
@@ -124,6 +165,15 @@ class Kills(Crash):
             return subprocess.Popen([TOOL, "load", "-b", self.batch, "--after=0", self.book,
                                      self.input], stdout=out, stderr=subprocess.DEVNULL)
 
+    def cut_somewhere(self, chance):
+        """If a batch was flushed, and noted, after the book's place."""
+        size = int(self.batch)
+        if os.path.exists(self.last):
+            place = journal.flushed_place(self.read(self.last), self.read(self.journal))
+            if place >= size:
+                self.check_cuts({0, place - size, chance.randrange(place // size) * size})
+                self.cuts += 1
+
     def test_random_kills(self):
         """Killed at random moments, repeated and killed again, until all kills are done."""
         chance = random.Random(12)
@@ -131,16 +181,19 @@ class Kills(Crash):
         self.assertEqual(self.start().wait(), DONE)
         whole = time.monotonic() - begun
         self.restart()
-        kills = ended = 0
+        kills = ended = self.cuts = 0
         places = set()
         while kills < KILLS:
+            begun = time.monotonic()
             child = self.start()
-            time.sleep(chance.uniform(0, whole * chance.choice([0.4, 0.8, 1.2])))
+            time.sleep(chance.uniform(0, whole * chance.choice([0.4, 0.8, 1.0])))
             child.kill()
             status = child.wait()
             places.add(self.check_files(self.read(self.path("lines"))))
             if status == DONE:
                 ended += 1
+                # The machine has become quieter.
+                whole = min(whole, time.monotonic() - begun)
                 self.assertEqual(self.read(self.path("lines")), self.want)
                 self.check_end()
                 self.restart()
@@ -149,6 +202,7 @@ class Kills(Crash):
             kills += 1
             if kills % 20 == 0:
                 self.assertIn(run("audit", self.book)[0], (DONE, INTERRUPTED, SYSTEM))
+                self.cut_somewhere(chance)
             # Most loads are taken up where they were killed, some from the start.
             if chance.random() < 0.2:
                 self.check_repeated()
@@ -156,7 +210,8 @@ class Kills(Crash):
         self.check_repeated()
         print("\n%d kills, with %d different places reached, and %d loads that ended before the kill"
               % (kills, len(places), ended), end=" ")
-        self.assertGreater(len(places), 20)
+        self.assertGreater(len(places), 10)
+        self.assertGreater(self.cuts, 0)
 
 
 if __name__ == "__main__":

@@ -291,6 +291,51 @@ class Crashes(Case):
             self.fails(DAMAGED, [command, self.book], "place 150: the journal has the answer",
                        data=b"")
 
+    def test_what_had_been_flushed(self):
+        """BOOK.last tells whole batches that were cut off or made zeros from a crash's work."""
+        entry = self.whole[ENTRY * 220:ENTRY * 221]
+        cut, blank = self.whole[:ENTRY * 181], self.whole[:ENTRY * 181] + bytes(ENTRY * 40)
+        for data in (cut, blank, self.whole[:ENTRY * 101], self.whole[:ENTRY * 200],
+                     self.whole[:ENTRY * 181] + bytes(ENTRY * 39)):
+            self.restore(data)
+            self.write("desk.book.last", entry)
+            for command in ("load", "show", "pairs"):
+                self.fails(DAMAGED, [command, self.book], "desk.book.journal", data=b"")
+            self.fails(DIFFERS, ["audit", self.book], "desk.book.journal")
+            self.assertEqual((self.read(self.book), self.read(self.journal), self.read(self.last)),
+                             (self.older, data, entry))
+        # What an older one tells is less, and nothing wrong.
+        for place in (100, 140, 180):
+            self.write("desk.book.last", self.whole[ENTRY * place:ENTRY * (place + 1)])
+            self.check(cut, 180, False)
+            self.assertFalse(os.path.exists(self.last))
+
+    def test_last_that_tells_nothing(self):
+        """As a crash of the machine may leave it; the next load makes it anew."""
+        entry = self.whole[ENTRY * 220:ENTRY * 221]
+        for data in (b"", bytes(ENTRY), entry[:100], entry + b"x", journal.HEADER,
+                     entry[:64] + self.whole[ENTRY * 180 + 64:ENTRY * 181]):
+            self.write("desk.book.last", data)
+            self.check(self.whole[:ENTRY * 181], 180, False)
+            self.assertFalse(os.path.exists(self.last))
+
+    def test_changed_last(self):
+        """A changed byte of it is found or makes it tell nothing; no call is lost by it."""
+        entry = self.whole[ENTRY * 230:]
+        self.restore(self.whole)
+        for at in range(0, ENTRY, STEP):
+            data = bytearray(entry)
+            data[at] ^= 1 << at % 8
+            self.write("desk.book.last", data)
+            status, _, messages = run("show", self.book, "exposures")
+            self.assertEqual(status, DONE if at < 96 else DAMAGED, (at, messages))
+            self.assertEqual(run("audit", self.book)[0], INTERRUPTED if at < 96 else DIFFERS)
+        self.write("desk.book.last", self.whole[ENTRY * 220:ENTRY * 221])
+        found = journal.entries(self.whole)
+        found[149].record = record(10)
+        self.write("desk.book.journal", journal.written(found[:220]))
+        self.fails(DAMAGED, ["load", self.book], "place 220", "had been flushed", data=b"")
+
     def test_reading_changes_nothing(self):
         data = self.whole[:ENTRY * 200 + 5]
         self.restore(data)

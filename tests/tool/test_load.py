@@ -14,6 +14,9 @@ from common import (BAD_INPUT, BOOK, DAMAGED, DONE, ENTRY, EXAMPLE_LINES, IN_USE
                     SYSTEM, TOOL, Case, days, example, record, run)
 
 
+# Linux's number; Python has it from 3.10 on.
+F_SETPIPE_SZ = 1031
+
 # Fewer cases where each run is slow.
 STEP = int(os.environ.get("STEP", "1"))
 
@@ -46,8 +49,7 @@ class Lines(Case):
         lines = self.load(records)
         book = self.read(self.book)[:BOOK]
         for batch in (1, 7, 64, 65536):
-            os.remove(self.book)
-            os.remove(self.journal)
+            self.restart()
             self.assertEqual(self.load(records, "-b", str(batch)), lines)
             self.assertEqual(self.read(self.book)[:BOOK], book)
             self.done("audit", self.book)
@@ -56,8 +58,7 @@ class Lines(Case):
         records = days(900)
         lines = self.load(records)
         whole = self.read(self.book)[:BOOK]
-        os.remove(self.book)
-        os.remove(self.journal)
+        self.restart()
         first = self.load(records[:333])
         begun = self.read(self.journal)
         self.assertEqual(first + self.load(records[333:]), lines)
@@ -84,9 +85,7 @@ class Lines(Case):
         for before in ([], example()[:6]):
             for broken, kind in ((b"\x0d", 13), (b"\xff", 255), (record(0, 1, 5)[:8], 0),
                                  (record(6, 0, 1, 2, 0, 1000000, 1, 0, 7)[:1], 6)):
-                for path in (self.book, self.journal):
-                    if os.path.exists(path):
-                        os.remove(path)
+                self.restart()
                 place = len(before) + 1
                 lines = "".join(EXAMPLE_LINES.splitlines(True)[:place - 1])
                 lines += "%d %d 3 0 0 0\n" % (place, kind)
@@ -227,8 +226,7 @@ class Trouble(Case):
         want = self.load(records)
         book = self.read(self.book)
         for number in (signal.SIGINT, signal.SIGTERM, signal.SIGHUP):
-            os.remove(self.book)
-            os.remove(self.journal)
+            self.restart()
             # A shell lets programs behind '&' ignore SIGINT, and so this test may have been started.
             child = subprocess.Popen([TOOL, "load", self.book], stdin=subprocess.PIPE,
                                      stdout=subprocess.PIPE, stderr=subprocess.PIPE,
@@ -276,8 +274,7 @@ class Trouble(Case):
         records = days(500)
         data = b"".join(records)
         want = self.load(records)
-        os.remove(self.book)
-        os.remove(self.journal)
+        self.restart()
         with open("/dev/full", "wb") as full:
             done = subprocess.run([TOOL, "load", "-b", "100", self.book], input=data, stdout=full,
                                   stderr=subprocess.PIPE)
@@ -313,9 +310,7 @@ class Trouble(Case):
         sizes = (0, 1, 127, 128, 129, 255, 256, 5000, 128 * 101 - 1, 128 * 101, 128 * 101 + 1,
                  30000, 49152, 49279, 49280, 60000, 128 * 601 - 1)
         for size in sizes[::1 if STEP < 10 else 4]:
-            for path in (self.book, self.journal):
-                if os.path.exists(path):
-                    os.remove(path)
+            self.restart()
             done = subprocess.run([TOOL, "load", "-b", "100", self.book], input=data,
                                   capture_output=True, preexec_fn=limited(size))
             self.assertEqual(done.returncode, SYSTEM, size)
@@ -388,10 +383,10 @@ class Trouble(Case):
 
 
 class Progress(Case):
-    def watch(self, words, out, **variables):
-        """Runs with standard error on a terminal; what it showed."""
+    def watch(self, words, out):
+        """Starts with standard error on a terminal; the other end shows what it gets."""
         master, slave = pty.openpty()
-        child = subprocess.Popen([TOOL, *words], stdin=subprocess.PIPE, stdout=out, stderr=slave, env={**os.environ, **variables})
+        child = subprocess.Popen([TOOL, *words], stdin=subprocess.PIPE, stdout=out, stderr=slave)
         os.close(slave)
         return child, master
 
@@ -409,14 +404,21 @@ class Progress(Case):
         return shown
 
     def test_bar(self):
-        path = self.write("long.rec", b"".join(days(9000)))
-        child, master = self.watch(["load", self.book, path], subprocess.DEVNULL, YORDZEPA_BAR_AT_ONCE="1")
+        """A load that takes long because its lines are not read at first: no machine is too fast."""
+        path = self.write("long.rec", b"".join(days(2000)))
+        reading, writing = os.pipe()
+        fcntl.fcntl(writing, F_SETPIPE_SZ, 4096)
+        child, master = self.watch(["load", "-b", "50", self.book, path], writing)
+        os.close(writing)
+        first = os.read(reading, 1)
+        time.sleep(0.4)
+        with os.fdopen(reading, "rb") as lines:
+            self.assertEqual((first + lines.read()).count(b"\n"), 2000)
         shown = self.seen(master)
         child.communicate()
         self.assertEqual(child.returncode, DONE)
-        self.assertIn(b"%  ", shown)
-        self.assertIn(b"#", shown)
-        self.assertIn(b"9000 records after place 0", shown)
+        self.assertRegex(shown, rb"\r\[#+\.+\] +[0-9]+%  [0-9]+ records")
+        self.assertIn(b"2000 records after place 0", shown)
 
     def test_no_bar_on_short_loads(self):
         child, master = self.watch(["load", self.book, "/dev/null"], subprocess.DEVNULL)

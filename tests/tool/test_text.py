@@ -225,6 +225,7 @@ class Decode(Case):
 
 class Manners(Case):
     def test_help(self):
+        self.assertRegex(self.done("--version").decode(), r"^yordzepa \d+\.\d+\.\d+\n$")
         for words in (["--help"], ["-h"], ["encode", "--help"], ["decode", "-h"],
                       ["load", "--help"], ["show", "--help"], ["pairs", "--help"],
                       ["audit", "--help"]):
