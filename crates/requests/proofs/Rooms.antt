@@ -22,7 +22,7 @@ use Rattle.rules.specs.Requests.{isUsed, isPaired, isOwner, partnerOf, freeRow,
 use Rattle.rules.specs.Requesting.{takerFollows, rowsNeeded, needsExposure, ownRequest}
 use Rattle.rules.specs.Sound.{sound}
 use Rattle.request_search.specs.Rows.{rowsFree, openOrWhole, isOwnRequest}
-use Rattle.request_rows.specs.Ranges.{RoomForOne, RoomForTwo}
+use Rattle.request_entry.specs.Entering.{RoomForOne, RoomForTwo}
 use Rattle.requests.specs.Steps.{Room, PairIn}
 
 -- a row that is free, by its number

@@ -12,8 +12,7 @@ use Rattle.book.specs.State.{State, put}
 use Rattle.rules.specs.Requests.{acceptsGiver, partnerOf, freeExposure}
 use Rattle.rules.specs.Requesting.{takerFollows, earliestEqual, pairsNow, needsExposure, withRow, withTaker, withEqual, waiting, rowsEntered, entered, pairEnds, ownRequest, cancelled}
 use Rattle.totals.specs.Totals.{totalsOf}
-use Rattle.request_rows.specs.Entering.{lacksExposure, withExposure}
-use Rattle.request_rows.specs.Ranges.{RoomForTwo, ExposureRoom}
+use Rattle.request_entry.specs.Entering.{RoomForTwo, lacksExposure, ExposureRoom, withExposure}
 use Rattle.requests.specs.Steps.{Room, PairIn, cancelledPair, Taken}
 
 -- a request that pairs: its rows leave the exposures as they are

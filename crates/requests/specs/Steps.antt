@@ -9,7 +9,7 @@ use Rattle.book.specs.State.{State, put}
 use Rattle.rules.specs.Outcome.{Step}
 use Rattle.rules.specs.Requests.{partnerOf, freeExposure}
 use Rattle.rules.specs.Requesting.{takerFollows, needsExposure, pairEnds}
-use Rattle.request_rows.specs.Ranges.{RoomForOne, RoomForTwo}
+use Rattle.request_entry.specs.Entering.{RoomForOne, RoomForTwo}
 use Rattle.totals.specs.Totals.{totalsOf}
 use Rattle.totals.specs.declared.Totals.{Totals}
 

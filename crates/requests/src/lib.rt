@@ -11,7 +11,7 @@ ghost use Rattle.rules.specs.Outcome.{lowest};
 ghost use Rattle.rules.specs.Requesting.{pairEnds, entered, cancelled};
 ghost use Rattle.rules.specs.Sound.{sound};
 ghost use Rattle.totals.specs.Totals.{totalsOf};
-ghost use Rattle.request_rows.specs.Ranges.{EntryIn};
+ghost use Rattle.request_rows.specs.Rows.{EntryIn};
 ghost use Rattle.requests.specs.Steps.{cancelledPair, Taken, Room, PairIn};
 use book::layout::CANCELS;
 use book::layout::ENDS;
@@ -79,8 +79,8 @@ fn enter(book: &mut [u8], kind: u64, fields: &[u64; 8]) -> Totals
 {
     let number = book::get(book, NEXT_NUMBER, 0);
     if request_search::does_taker_follow(book, fields) {
-        request_rows::enter_with_taker(book, kind, fields);
-        request_rows::join_exposure(book, kind, fields);
+        request_entry::enter_with_taker(book, kind, fields);
+        request_entry::join_exposure(book, kind, fields);
         return Totals {
             a: number,
             b: number + 1,
@@ -89,7 +89,7 @@ fn enter(book: &mut [u8], kind: u64, fields: &[u64; 8]) -> Totals
     }
     let j = request_search::earliest_equal(book, kind, fields);
     if 256 <= j {
-        request_rows::enter_waiting(book, kind, fields);
+        request_entry::enter_waiting(book, kind, fields);
         return Totals {
             a: number,
             b: 0,
@@ -97,8 +97,8 @@ fn enter(book: &mut [u8], kind: u64, fields: &[u64; 8]) -> Totals
         };
     }
     let partner = book::get(book, NUMBERS, j);
-    request_rows::enter_with_equal(book, kind, fields, j);
-    request_rows::join_exposure(book, kind, fields);
+    request_entry::enter_with_equal(book, kind, fields, j);
+    request_entry::join_exposure(book, kind, fields);
     Totals {
         a: number,
         b: partner,

@@ -1,10 +1,10 @@
--- `request_rows::enter_waiting` meets its contract.
+-- `request_entry::enter_waiting` meets its contract.
 -- Assumes nothing.
 use Rattle.book.specs.State.{state}
-use Rattle.request_rows.proofs.Ways.{waiting-written}
+use Rattle.request_entry.proofs.Ways.{waiting-written}
 use borrow.Author.Needs.{needs}
-use Rattle.request_rows.proofs.enter_waiting.Statement.{statement}
-use Rattle.request_rows.proofs.enter_waiting.Tie as tie
+use Rattle.request_entry.proofs.enter_waiting.Statement.{statement}
+use Rattle.request_entry.proofs.enter_waiting.Tie as tie
 
 get-requires : tie.Need-get-requires
 get-requires c κs = search needs

@@ -1,8 +1,8 @@
--- `request_rows::give_exposure` meets its contract.
+-- `request_entry::give_exposure` meets its contract.
 -- Assumes nothing.
 use borrow.Author.Needs.{needs}
-use Rattle.request_rows.proofs.give_exposure.Statement.{statement}
-use Rattle.request_rows.proofs.give_exposure.Tie as tie
+use Rattle.request_entry.proofs.give_exposure.Statement.{statement}
+use Rattle.request_entry.proofs.give_exposure.Tie as tie
 
 set-requires : tie.Need-set-requires
 set-requires c κs = search needs

@@ -1,10 +1,10 @@
--- `request_rows::enter_with_equal` meets its contract.
+-- `request_entry::enter_with_equal` meets its contract.
 -- Assumes nothing.
 use Rattle.book.specs.State.{state}
-use Rattle.request_rows.proofs.Ways.{equal-written}
+use Rattle.request_entry.proofs.Ways.{equal-written}
 use borrow.Author.Needs.{needs}
-use Rattle.request_rows.proofs.enter_with_equal.Statement.{statement}
-use Rattle.request_rows.proofs.enter_with_equal.Tie as tie
+use Rattle.request_entry.proofs.enter_with_equal.Statement.{statement}
+use Rattle.request_entry.proofs.enter_with_equal.Tie as tie
 
 get-requires : tie.Need-get-requires
 get-requires c κs = search needs

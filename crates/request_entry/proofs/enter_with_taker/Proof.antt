@@ -1,11 +1,11 @@
--- `request_rows::enter_with_taker` meets its contract.
+-- `request_entry::enter_with_taker` meets its contract.
 -- Assumes nothing.
 use Prim.Native.Nat.{_<_}
 use Rattle.book.specs.State.{state}
-use Rattle.request_rows.proofs.Ways.{second-below, taker-written}
+use Rattle.request_entry.proofs.Ways.{second-below, taker-written}
 use borrow.Author.Needs.{needs}
-use Rattle.request_rows.proofs.enter_with_taker.Statement.{statement}
-use Rattle.request_rows.proofs.enter_with_taker.Tie as tie
+use Rattle.request_entry.proofs.enter_with_taker.Statement.{statement}
+use Rattle.request_entry.proofs.enter_with_taker.Tie as tie
 
 get-requires : tie.Need-get-requires
 get-requires c κs = search needs

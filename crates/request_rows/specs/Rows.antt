@@ -1,14 +1,21 @@
--- What the writing functions leave: the parts of a request's row, and its exposure.
+-- What the functions that write a request's row count on of its record, and what they leave.
 -- Assumes nothing.
 use mathlib.Core.Path.{_≡_}
-use mathlib.Core.Bool.{Bool, _&&_, cond}
 use mathlib.Core.List.{List}
-use Prim.Native.Nat.{ℕ}
-use lib.Dec.{eqb}
+use Prim.Native.Nat.{ℕ, _≤_}
 use Rattle.book.specs.Layout.{numbers, kinds, sides, givers, takers, objects, amounts, settlements, closings, references, partners, pairPartials}
 use Rattle.book.specs.State.{State, put}
-use Rattle.rules.specs.Requests.{freeExposure, freeRow}
-use Rattle.rules.specs.Requesting.{giverIn, takerIn, objectIn, amountIn, settlementIn, closingIn, referenceIn, exposureOf, exposureGiven}
+use Rattle.rules.specs.Requests.{freeRow}
+use Rattle.rules.specs.Requesting.{giverIn, takerIn, objectIn, amountIn, settlementIn, closingIn, referenceIn}
+use Rattle.request_search.specs.Ranges.{RequestIn}
+
+-- the common fields with the kind, 6 or 7, and the fields that depend on it
+pub record EntryIn (k : ℕ) (r : List ℕ) : Type 0 where
+  pub kind-low : 6 ≤ k
+  pub kind-high : k ≤ 7
+  pub fields : RequestIn r
+  pub closing : closingIn k r ≤ 4294967295
+  pub reference : referenceIn k r ≤ 18446744073709551615
 
 -- the row's parties with their basket or exposure; its amount, days and reference
 abbrev pub withParties : State → List ℕ → ℕ → State
@@ -27,11 +34,3 @@ filledRow s k r i side partner partial =
 pub record RowTaken (s : State) (number row : ℕ) (after : State) : Type 0 where
   pub row-is : row ≡ freeRow s
   pub state-is : after ≡ put s numbers (freeRow s) number
-
--- a FOP whose key no exposure has
-abbrev pub lacksExposure : State → ℕ → List ℕ → Bool
-lacksExposure s k r = eqb k 6 && eqb (exposureOf s r) 64
-
--- "A FOP pair belongs to the exposure of its giver, taker, basket and closing date, or to the lowest free row"
-abbrev pub withExposure : State → ℕ → List ℕ → State
-withExposure s k r = cond (lacksExposure s k r) (exposureGiven s r (freeExposure s)) s
