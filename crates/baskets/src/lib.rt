@@ -16,7 +16,7 @@ pub struct Basket {
 }
 
 // Is bit i of a map set?
-fn has_bit(map: u64, i: u64) -> bool
+pub fn has_bit(map: u64, i: u64) -> bool
     requires { ⌜ i < 64 ⌝ }
     ensures { λ r. ⌜ r ≡ hasBit map i ⌝ }
 {

@@ -10,7 +10,8 @@ use Rattle.records.specs.Kinds.{kinds}
 use Rattle.records.specs.Writing.{areLegal}
 use Rattle.rules.specs.Requesting.{objectIn}
 use Rattle.facts.proofs.Ranges.{field-in}
-use Rattle.requests.specs.Ranges.{RequestIn, EntryIn}
+use Rattle.request_search.specs.Ranges.{RequestIn}
+use Rattle.request_rows.specs.Rows.{EntryIn}
 
 module _ (r : List ℕ) where
   pub fop-in : areLegal 6 r ≡ true → EntryIn 6 r

@@ -21,9 +21,9 @@ use Rattle.rules.specs.Outcome.{lowest}
 use Rattle.rules.specs.Requests.{isUsed, isPaired, isOwner, partnerOf, freeRow, freeExposure}
 use Rattle.rules.specs.Requesting.{takerFollows, rowsNeeded, needsExposure, ownRequest}
 use Rattle.rules.specs.Sound.{sound}
-use Rattle.requests.specs.Ranges.{RoomForOne, RoomForTwo, Room, PairIn}
-use Rattle.requests.specs.Rules.{openOrWhole, isOwnRequest}
-use Rattle.requests.proofs.CodeWays.{rowsFree}
+use Rattle.request_search.specs.Rows.{rowsFree, openOrWhole, isOwnRequest}
+use Rattle.request_entry.specs.Entering.{RoomForOne, RoomForTwo}
+use Rattle.requests.specs.Steps.{Room, PairIn}
 
 -- a row that is free, by its number
 abbrev isFree : State → ℕ → Bool

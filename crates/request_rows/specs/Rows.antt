@@ -1,0 +1,36 @@
+-- What the functions that write a request's row count on of its record, and what they leave.
+-- Assumes nothing.
+use mathlib.Core.Path.{_≡_}
+use mathlib.Core.List.{List}
+use Prim.Native.Nat.{ℕ, _≤_}
+use Rattle.book.specs.Layout.{numbers, kinds, sides, givers, takers, objects, amounts, settlements, closings, references, partners, pairPartials}
+use Rattle.book.specs.State.{State, put}
+use Rattle.rules.specs.Requests.{freeRow}
+use Rattle.rules.specs.Requesting.{giverIn, takerIn, objectIn, amountIn, settlementIn, closingIn, referenceIn}
+use Rattle.request_search.specs.Ranges.{RequestIn}
+
+-- the common fields with the kind, 6 or 7, and the fields that depend on it
+pub record EntryIn (k : ℕ) (r : List ℕ) : Type 0 where
+  pub kind-low : 6 ≤ k
+  pub kind-high : k ≤ 7
+  pub fields : RequestIn r
+  pub closing : closingIn k r ≤ 4294967295
+  pub reference : referenceIn k r ≤ 18446744073709551615
+
+-- the row's parties with their basket or exposure; its amount, days and reference
+abbrev pub withParties : State → List ℕ → ℕ → State
+withParties s r i = put (put (put s givers i (giverIn r)) takers i (takerIn r)) objects i (objectIn r)
+
+abbrev pub withTerms : State → ℕ → List ℕ → ℕ → State
+withTerms s k r i =
+    put (put (put (put s amounts i (amountIn r)) settlements i (settlementIn r)) closings i (closingIn k r)) references i (referenceIn k r)
+
+-- a row whose number stands already gets the rest
+abbrev pub filledRow : State → ℕ → List ℕ → ℕ → ℕ → ℕ → ℕ → State
+filledRow s k r i side partner partial =
+    put (put (withTerms (withParties (put (put s kinds i k) sides i side) r i) k r i) partners i partner) pairPartials i partial
+
+-- the lowest free row is taken for a number
+pub record RowTaken (s : State) (number row : ℕ) (after : State) : Type 0 where
+  pub row-is : row ≡ freeRow s
+  pub state-is : after ≡ put s numbers (freeRow s) number

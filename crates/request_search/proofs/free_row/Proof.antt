@@ -1,0 +1,52 @@
+-- `request_search::free_row` meets its contract: none below `i` is free.
+-- Assumes nothing.
+use mathlib.Core.Path.{refl, sym, _∙_}
+use Prim.Native.Nat.{_-_, _≤_}
+use native.Mathlib.Omega.{arith}
+use lib.Dec.{eqb}
+use Rattle.book.specs.Layout.{numbers}
+use Rattle.book.specs.State.{state}
+use Rattle.rules.specs.Requests.{freeRow}
+use Rattle.request_search.proofs.Searches.{Ahead, found, onward, nowhere}
+use borrow.Author.Needs.{needs}
+use borrow.Author.Tests.{eq-eqb, ne-eqb}
+use Rattle.request_search.proofs.free_row.Statement.{statement}
+use Rattle.request_search.proofs.free_row.Tie as tie
+
+abbrev Inv-loop : tie.InvT-loop
+Inv-loop book i₀ i = (i ≤ 256) × Ahead (λ i. eqb (state book numbers i) 0) 256 i (freeRow (state book))
+
+abbrev μ-loop : tie.MeasureT-loop
+μ-loop book i₀ i = 256 - i
+
+loop-holds : tie.Need-loop-holds Inv-loop μ-loop
+loop-holds c = (omega arith, record { decides = refl })
+
+get-requires : tie.Need-get-requires Inv-loop μ-loop
+get-requires c κs = search needs
+
+returns : tie.Need-returns Inv-loop μ-loop
+returns c =
+    let l = c .before .before .before in
+    let x = state (l .before .before .args .book .now) numbers (l .loop .i) in
+    found (l .loop .inv .1) (c .before .before .loop-test .taken) (eq-eqb x 0 (sym (c .before .get .ensures) ∙ c .if1 .taken))
+
+add-i : tie.Need-add-i Inv-loop μ-loop
+add-i c = search needs
+
+loop-less : tie.Need-loop-less Inv-loop μ-loop
+loop-less c = search needs
+
+loop-again : tie.Need-loop-again Inv-loop μ-loop
+loop-again c =
+    let l = c .before .before .before in
+    let x = state (l .before .before .args .book .now) numbers (l .loop .i) in
+    (omega arith, onward (l .loop .inv .1) (c .before .before .loop-test .taken) (ne-eqb x 0 (λ z. c .if1 .left (c .before .get .ensures ∙ z))))
+
+returns-2 : tie.Need-returns-2 Inv-loop μ-loop
+returns-2 c = nowhere (c .before .loop .inv .1) (c .loop-test .left)
+
+pub free-row-spec : {M : Type 1} → statement M
+free-row-spec =
+    tie.close
+    (tie.spec Inv-loop μ-loop loop-holds get-requires returns add-i loop-less loop-again returns-2)
