@@ -1,0 +1,2 @@
+pub mod Exposures
+pub mod Ways
