@@ -30,9 +30,9 @@ pub fn give_back(book: &mut [u8], e: usize, nominals: &[u64; 64])
     requires { ⌜ (length (now book) ≡ bookLength) × GivingBack (state (now book)) e (now nominals) ⌝ }
     ensures { λ _. ⌜ state (now (book .exit)) ≡ giveBack (state (now (book .entry))) e (now (nominals .entry)) ⌝ }
 {
-    let giver = book::get(book, EXPOSURE_GIVERS, e) as usize;
+    let owner = book::get(book, EXPOSURE_GIVERS, e) as usize;
     book::lower(book, POSITIONS, 64 * e, nominals);
-    book::raise(book, ACCOUNTS, 64 * giver, nominals);
+    book::raise(book, ACCOUNTS, 64 * owner, nominals);
 }
 
 // The map and greatest age of an exposure's basket.

@@ -1,5 +1,3 @@
-pub mod Exposures
-pub mod OnEach
-pub mod Rows
+pub mod Profiles
 pub mod Stages
 pub mod Ways

@@ -11,7 +11,8 @@ use Rattle.rules.specs.Sound.{holding}
 use Rattle.totals.specs.Totals.{totalsOf}
 use Rattle.totals.specs.declared.Totals.{Totals}
 use Rattle.day_laws.proofs.Each.{each-keeps}
-use Rattle.day_change.specs.Parts.{profileWaits, amountsClosed, Closable}
+use Rattle.day_exposures.specs.Parts.{amountsClosed, Closable}
+use Rattle.day_change.specs.Parts.{profileWaits}
 
 -- rows dropped, the new day, the profiles in force
 abbrev pub newDay : State → ℕ → State

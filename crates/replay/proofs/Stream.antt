@@ -9,8 +9,8 @@ use native.Mathlib.Numerals.{add-one}
 use native.Mathlib.Omega.{arith}
 use mathlib.Core.Logic.{⊎-elim}
 use lib.Dec.{eqb, leb, ltb}
-use lib.ListN.{length, getD, take, drop, set, length-drop}
-use lib.Seq.{take-suc-set, take-all}
+use lib.ListN.{length, getD, take, drop, set, length-drop, take-append-drop}
+use lib.Seq.{take-suc-set, take-all, drop-set-lt, drop-drop}
 use borrow.Author.Tests.{eqb-true, ne-eqb, lt-ltb, le-ltb, le-leb, lt-leb}
 use Rattle.laws.proofs.Cases.{either}
 use Rattle.book.specs.State.{state}
@@ -43,17 +43,26 @@ calls-full : (n k : ℕ) (s : List ℕ) (i : ℕ) → n ≤ k → callsFrom (n -
 unfolding callsFrom
 calls-full n k s i h = let e : n - k ≡ 0 = omega arith in rw e
 
--- what holds at each turn of a run: k codes are given, and the calls from the place i on are left
-pub record Walk (s b₀ b l : List ℕ) (n i k : ℕ) : Type 0 where
+-- what holds at each turn of a run: k codes are given, those past them are as they were, and the calls from the place i on are left
+pub record Walk (s b₀ b l₀ l : List ℕ) (i k : ℕ) : Type 0 where
   pub low : i ≤ length s
-  pub count : k ≤ n
-  pub book : bookAfter b₀ (callsFrom n s 0) ≡ bookAfter b (callsFrom (n - k) s i)
-  pub given : bookCodes b₀ (callsFrom n s 0) ≡ take k l ++ bookCodes b (callsFrom (n - k) s i)
+  pub room : k ≤ length l₀
+  pub count : length (callsFrom (length l₀) s 0) ≡ k + length (callsFrom (length l₀ - k) s i)
+  pub book : bookAfter b₀ (callsFrom (length l₀) s 0) ≡ bookAfter b (callsFrom (length l₀ - k) s i)
+  pub given : bookCodes b₀ (callsFrom (length l₀) s 0) ≡ take k l ++ bookCodes b (callsFrom (length l₀ - k) s i)
+  pub rest : drop k l ≡ drop k l₀
 
-pub walk-begins : (s b l : List ℕ) (n : ℕ) → Walk s b b l n 0 0
-walk-begins s b l n =
-    let e : n ≡ n - 0 = omega arith in
-    record { low = omega arith; count = omega arith; book = ap (λ (m : ℕ). bookAfter b (callsFrom m s 0)) e; given = ap (λ (m : ℕ). bookCodes b (callsFrom m s 0)) e }
+pub walk-begins : (s b l : List ℕ) → Walk s b b l l 0 0
+walk-begins s b l =
+    let e : length l ≡ length l - 0 = omega arith in
+    record {
+      low = omega arith;
+      room = omega arith;
+      count = omega (arith, ap (λ (m : ℕ). length (callsFrom m s 0)) e);
+      book = ap (λ (m : ℕ). bookAfter b (callsFrom m s 0)) e;
+      given = ap (λ (m : ℕ). bookCodes b (callsFrom m s 0)) e;
+      rest = refl;
+    }
 
 after-cons : (b : List ℕ) (x : Call) (xs : List Call) → bookAfter b (x ∷ xs) ≡ bookAfter (bookNext b x) xs
 unfolding bookAfter
@@ -67,47 +76,58 @@ codes-cons b x xs = refl
 one-more : (l : List ℕ) (k c : ℕ) → k < length l → take (k + 1) (set l k c) ≡ take k l ++ (c ∷ [])
 one-more l k c h = rw (add-one, take-suc-set l k c h)
 
-pub walk-goes-on : (s b₀ b l after : List ℕ) (n i k c j : ℕ) → Walk s b₀ b l n i k → i < length s → k < n → k < length l → One s b after i c j → Walk s b₀ after (set l k c) n j (k + 1)
-walk-goes-on s b₀ b l after n i k c j w h m inside o =
-    let left = callsFrom (n - (k + 1)) s (nextAt s i) in
+-- and the codes past it
+past-more : (l l₀ : List ℕ) (k c : ℕ) → drop k l ≡ drop k l₀ → drop (k + 1) (set l k c) ≡ drop (k + 1) l₀
+past-more l l₀ k c e = drop-set-lt (k + 1) l k c (omega arith) ∙ sym (drop-drop 1 k l) ∙ ap (drop 1) e ∙ drop-drop 1 k l₀
+
+pub walk-goes-on : (s b₀ b l₀ l after : List ℕ) (i k c j : ℕ) → Walk s b₀ b l₀ l i k → i < length s → k < length l₀ → length l ≡ length l₀ → One s b after i c j → Walk s b₀ after l₀ (set l k c) j (k + 1)
+walk-goes-on s b₀ b l₀ l after i k c j w h m same o =
+    let left = callsFrom (length l₀ - (k + 1)) s (nextAt s i) in
+    let more = calls-more (length l₀) s i k h m in
     rw (o .on)
     (record {
       low = next-low s i;
-      count = omega arith;
-      book = w .book ∙ ap (bookAfter b) (calls-more n s i k h m) ∙ after-cons b (callAt s i) left ∙ ap (λ (z : List ℕ). bookAfter z left) (sym (o .book));
+      room = omega arith;
+      count = omega (arith, w .count, ap (length {A = Call}) more);
+      book = w .book ∙ ap (bookAfter b) more ∙ after-cons b (callAt s i) left ∙ ap (λ (z : List ℕ). bookAfter z left) (sym (o .book));
       given =
           w .given
-          ∙ ap (λ (z : List Call). take k l ++ bookCodes b z) (calls-more n s i k h m)
+          ∙ ap (λ (z : List Call). take k l ++ bookCodes b z) more
           ∙ ap (λ (z : List ℕ). take k l ++ z) (codes-cons b (callAt s i) left ∙ ap₂ (λ (u : ℕ) (v : List ℕ). u ∷ bookCodes v left) (sym (o .given)) (sym (o .book)))
-          ∙ sym (ap (λ (z : List ℕ). z ++ bookCodes after left) (one-more l k c inside) ∙ append-assoc (take k l) (c ∷ []) (bookCodes after left));
+          ∙ sym (ap (λ (z : List ℕ). z ++ bookCodes after left) (one-more l k c (omega arith)) ∙ append-assoc (take k l) (c ∷ []) (bookCodes after left));
+      rest = past-more l l₀ k c (w .rest);
     })
 
 -- nothing is left: demand 3 holds of the bytes
-module _ (theorem : Demand3) (s b₀ b l : List ℕ) (n i k : ℕ) (w : Walk s b₀ b l n i k) (none : callsFrom (n - k) s i ≡ []) where
-  same-book : b ≡ bookAfter b₀ (callsFrom n s 0)
+module _ (theorem : Demand3) (s b₀ b l₀ l : List ℕ) (i k : ℕ) (w : Walk s b₀ b l₀ l i k) (none : callsFrom (length l₀ - k) s i ≡ []) where
+  same-book : b ≡ bookAfter b₀ (callsFrom (length l₀) s 0)
   unfolding bookAfter
   same-book = sym (w .book ∙ ap (bookAfter b) none)
 
-  same-codes : take k l ≡ bookCodes b₀ (callsFrom n s 0)
+  same-codes : take k l ≡ bookCodes b₀ (callsFrom (length l₀) s 0)
   unfolding bookCodes
   same-codes = sym (w .given ∙ ap (λ (z : List Call). take k l ++ bookCodes b z) none ∙ append-nil (take k l))
 
-  walk-done : Ran s b₀ b l n k
+  all-codes : (given : List ℕ) → take k l ≡ given → l ≡ given ++ drop k l₀
+  all-codes given e = sym (take-append-drop k l) ∙ ap₂ (λ (x y : List ℕ). x ++ y) e (w .rest)
+
+  walk-done : Ran s b₀ b l₀ l k
   walk-done =
       record {
+        count = omega (arith, w .count, ap (length {A = Call}) none);
         book = same-book;
-        given = same-codes;
+        given = all-codes (bookCodes b₀ (callsFrom (length l₀) s 0)) same-codes;
         ledger = λ bytes calls e o p.
-            let d : Holds b₀ p (callsFrom n s 0) = rw e (theorem b₀ p bytes calls o) in
-            (same-codes ∙ d .codes, rw same-book (d .agrees));
+            let d : Holds b₀ p (callsFrom (length l₀) s 0) = rw e (theorem b₀ p bytes calls o) in
+            (all-codes (paperCodes p (callsFrom (length l₀) s 0)) (same-codes ∙ d .codes), rw same-book (d .agrees));
       }
 
-module _ (theorem : Demand3) (s b₀ b l : List ℕ) (n i k : ℕ) (w : Walk s b₀ b l n i k) where
-  pub walk-ends-from : length s ≤ i → Ran s b₀ b l n k
-  walk-ends-from h = walk-done theorem s b₀ b l n i k w (calls-end (n - k) s i h)
+module _ (theorem : Demand3) (s b₀ b l₀ l : List ℕ) (i k : ℕ) (w : Walk s b₀ b l₀ l i k) where
+  pub walk-ends-from : length s ≤ i → Ran s b₀ b l₀ l k
+  walk-ends-from h = walk-done theorem s b₀ b l₀ l i k w (calls-end (length l₀ - k) s i h)
 
-  pub walk-full-from : n ≤ k → Ran s b₀ b l n k
-  walk-full-from h = walk-done theorem s b₀ b l n i k w (calls-full n k s i h)
+  pub walk-full-from : length l₀ ≤ k → Ran s b₀ b l₀ l k
+  walk-full-from h = walk-done theorem s b₀ b l₀ l i k w (calls-full (length l₀) k s i h)
 
 -- the first number of an answer is its code
 pub answer-code : (b : List ℕ) (q : Read) (a : List ℕ) → a ≡ readAnswer b q → getD a 0 0 ≡ readCode b q
@@ -183,8 +203,8 @@ past-end (x ∷ l) zero h = absurd (omega arith)
 past-end (x ∷ l) (suc i) h = past-end l i (omega arith)
 
 -- the end of a run, with the theorem
-pub walk-ends : (s b₀ b l : List ℕ) (n i k : ℕ) → Walk s b₀ b l n i k → length s ≤ i → Ran s b₀ b l n k
+pub walk-ends : (s b₀ b l₀ l : List ℕ) (i k : ℕ) → Walk s b₀ b l₀ l i k → length s ≤ i → Ran s b₀ b l₀ l k
 walk-ends = walk-ends-from demand-3
 
-pub walk-full : (s b₀ b l : List ℕ) (n i k : ℕ) → Walk s b₀ b l n i k → n ≤ k → Ran s b₀ b l n k
+pub walk-full : (s b₀ b l₀ l : List ℕ) (i k : ℕ) → Walk s b₀ b l₀ l i k → length l₀ ≤ k → Ran s b₀ b l₀ l k
 walk-full = walk-full-from demand-3

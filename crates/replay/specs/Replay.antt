@@ -2,7 +2,7 @@
 -- Assumes nothing.
 use mathlib.Core.Path.{_≡_}
 use mathlib.Core.Bool.{cond}
-use mathlib.Core.List.{List, [], _∷_}
+use mathlib.Core.List.{List, [], _∷_, _++_}
 use Prim.Native.Nat.{ℕ, zero, suc, _+_, _*_, _-_, _/_, _%_, min}
 use lib.Dec.{eqb, leb, ltb}
 use lib.ListN.{length, getD, take, drop}
@@ -40,10 +40,12 @@ pub record One (s b after : List ℕ) (i code next : ℕ) : Type 0 where
   pub given : code ≡ bookCode b (callAt s i)
   pub on : next ≡ nextAt s i
 
--- what a stream s leaves of the book b where n codes are lent: the book after it, and k codes
-pub record Ran (s b after codes : List ℕ) (n k : ℕ) : Type 0 where
-  pub book : after ≡ bookAfter b (callsFrom n s 0)
-  pub given : take k codes ≡ bookCodes b (callsFrom n s 0)
+-- what a stream s leaves of the book b and of the codes lent: the book after its calls, their codes, the codes past them as they were,
+-- and k, how many the calls are: as many as the stream has, or as codes are lent
+pub record Ran (s b after codes left : List ℕ) (k : ℕ) : Type 0 where
+  pub count : k ≡ length (callsFrom (length codes) s 0)
+  pub book : after ≡ bookAfter b (callsFrom (length codes) s 0)
+  pub given : left ≡ bookCodes b (callsFrom (length codes) s 0) ++ drop k codes
   -- demand 3: where the stream begins with an accepted opening, whatever the book held and whatever stood on the paper
-  pub ledger : (bytes : List ℕ) (calls : List Call) → callsFrom n s 0 ≡ send bytes ∷ calls → Opened b bytes → (p : Paper)
-      → (take k codes ≡ paperCodes p (callsFrom n s 0)) × Agrees (state after) (paperAfter p (callsFrom n s 0))
+  pub ledger : (bytes : List ℕ) (calls : List Call) → callsFrom (length codes) s 0 ≡ send bytes ∷ calls → Opened b bytes → (p : Paper)
+      → (left ≡ paperCodes p (callsFrom (length codes) s 0) ++ drop k codes) × Agrees (state after) (paperAfter p (callsFrom (length codes) s 0))

@@ -12,6 +12,7 @@ pub struct Done {
     pub next: usize,
 }
 
+// A byte as a number.
 fn wide(x: u8) -> u64
     ensures { λ r. ⌜ (r ≡ x) × (r < 256) ⌝ }
 {
@@ -50,6 +51,7 @@ fn nominal_code(book: &[u8], kind: u64, n: u64) -> u64
     answer[0]
 }
 
+// The code of a read of an exposure.
 fn exposure_code(book: &[u8], n: u64) -> u64
     ensures { λ r. ⌜ r ≡ readCode (now (book .entry)) (readOf 2 n) ⌝ }
 {
@@ -58,6 +60,7 @@ fn exposure_code(book: &[u8], n: u64) -> u64
     answer[0]
 }
 
+// The code of a read of a request.
 fn request_code(book: &[u8], n: u64) -> u64
     ensures { λ r. ⌜ r ≡ readCode (now (book .entry)) (readOf 3 n) ⌝ }
 {
@@ -66,6 +69,7 @@ fn request_code(book: &[u8], n: u64) -> u64
     answer[0]
 }
 
+// The code of a read of a basket.
 fn basket_code(book: &[u8], n: u64) -> u64
     ensures { λ r. ⌜ r ≡ readCode (now (book .entry)) (readOf 4 n) ⌝ }
 {
@@ -122,9 +126,9 @@ fn run_one(book: &mut [u8], stream: &[u8], i: usize) -> Done
     }
 }
 
-// Runs the calls of a stream, at most as many as codes are lent, and gives how many there were.
+// Runs the calls of a stream, at most as many as codes are lent, and gives how many there were. The codes past theirs stay as they were.
 pub fn run(book: &mut [u8], stream: &[u8], codes: &mut [u64]) -> usize
-    ensures { λ r. ⌜ Ran (now (stream .entry)) (now (book .entry)) (now (book .exit)) (now (codes .exit)) (length (now (codes .entry))) r ⌝ }
+    ensures { λ r. ⌜ Ran (now (stream .entry)) (now (book .entry)) (now (book .exit)) (now (codes .entry)) (now (codes .exit)) r ⌝ }
 {
     let mut i: usize = 0;
     let mut k: usize = 0;

@@ -1,7 +1,7 @@
 -- `day_change::change_profile` meets its contract.
 -- Assumes nothing.
 use Rattle.book.specs.State.{state}
-use Rattle.day_change.proofs.Rows.{in-profiles, cleared-profile, profile-changed, profile-kept}
+use Rattle.day_change.proofs.Profiles.{in-profiles, cleared-profile, profile-changed, profile-kept}
 use borrow.Author.Needs.{needs}
 use Rattle.day_change.proofs.change_profile.Statement.{statement}
 use Rattle.day_change.proofs.change_profile.Tie as tie

@@ -9,8 +9,8 @@ use Rattle.book.specs.State.{state}
 use Rattle.rules.specs.DayChange.{onEach, changeTakesEffect, profilesChanged}
 use Rattle.day_laws.proofs.Each.{no-turn}
 use Rattle.day_change.specs.Parts.{profileWaits}
-use Rattle.day_change.proofs.OnEach.{loop-steps}
-use Rattle.day_change.proofs.Rows.{profiles-apart}
+use Rattle.day_rows.proofs.OnEach.{loop-steps}
+use Rattle.day_change.proofs.Profiles.{profiles-apart}
 use borrow.Author.Needs.{needs}
 use Rattle.day_change.proofs.change_profiles.Statement.{statement}
 use Rattle.day_change.proofs.change_profiles.Tie as tie

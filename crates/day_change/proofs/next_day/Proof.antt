@@ -7,7 +7,7 @@ use Rattle.book.specs.State.{state}
 use Rattle.facts.proofs.Facts.{sound-facts}
 use Rattle.facts.proofs.Stock.{today-le}
 use Rattle.day_laws.proofs.Profiles.{next-day-within}
-use Rattle.day_change.proofs.Exposures.{sound-closable}
+use Rattle.day_exposures.proofs.Exposures.{sound-closable}
 use Rattle.day_change.proofs.Stages.{new-day-closable, day-totals, day-changed}
 use borrow.Author.Needs.{needs}
 use Rattle.day_change.proofs.next_day.Statement.{statement}

@@ -10,13 +10,13 @@ use Rattle.replay.proofs.run.Statement.{statement}
 use Rattle.replay.proofs.run.Tie as tie
 
 abbrev Inv-loop : tie.InvT-loop
-Inv-loop book₀ stream codes₀ i₀ k₀ book codes i k = (length codes ≡ length codes₀) × (length book ≡ length book₀) × Walk stream book₀ book codes (length codes₀) i k
+Inv-loop book₀ stream codes₀ i₀ k₀ book codes i k = (length codes ≡ length codes₀) × (length book ≡ length book₀) × Walk stream book₀ book codes₀ codes i k
 
 abbrev μ-loop : tie.MeasureT-loop
 μ-loop book₀ stream codes₀ i₀ k₀ book codes i k = length stream - i
 
 loop-holds : tie.Need-loop-holds Inv-loop μ-loop
-loop-holds c = (refl, refl, walk-begins _ _ _ _)
+loop-holds c = (refl, refl, walk-begins _ _ _)
 
 same-length : tie.Need-same-length Inv-loop μ-loop
 same-length c = omega arith
@@ -28,7 +28,7 @@ returns : tie.Need-returns Inv-loop μ-loop
 returns c =
     let s = c .before .before .before .before .before .before in
     let l = c .before .before .loop in
-    walk-full (s .args .stream .now) (s .args .book .now) (l .book) (l .codes) (length (s .args .codes .now)) (l .i) (l .k) (l .inv .2) (omega arith)
+    walk-full (s .args .stream .now) (s .args .book .now) (l .book) (s .args .codes .now) (l .codes) (l .i) (l .k) (l .inv .2) (omega arith)
 
 run-one-requires : tie.Need-run-one-requires Inv-loop μ-loop
 run-one-requires c κs = omega arith
@@ -54,11 +54,10 @@ loop-again c =
     let s = c .before .before .before .before .before .before .before .before .before .before in
     let l = c .before .before .before .before .before .before .loop in
     let one = c .before .before .run-one in
-    let room : l .k < length (s .args .codes .now) = omega arith in
-    let inside : l .k < length (l .codes) = omega arith in (
+    let room : l .k < length (s .args .codes .now) = omega arith in (
       simp length-set (l .inv .0),
       one .kept .0 ∙ l .inv .1,
-      walk-goes-on (s .args .stream .now) (s .args .book .now) (l .book) (l .codes) (one .last .0) (length (s .args .codes .now)) (l .i) (l .k) (one .result .code) (one .result .next) (l .inv .2) (c .before .before .before .before .before .loop-test .taken) room inside (one .ensures),
+      walk-goes-on (s .args .stream .now) (s .args .book .now) (l .book) (s .args .codes .now) (l .codes) (one .last .0) (l .i) (l .k) (one .result .code) (one .result .next) (l .inv .2) (c .before .before .before .before .before .loop-test .taken) room (l .inv .0) (one .ensures),
     )
 
 same-length-3 : tie.Need-same-length-3 Inv-loop μ-loop
@@ -71,7 +70,7 @@ returns-2 : tie.Need-returns-2 Inv-loop μ-loop
 returns-2 c =
     let s = c .before .before .before .before .before in
     let l = c .before .loop in
-    walk-ends (s .args .stream .now) (s .args .book .now) (l .book) (l .codes) (length (s .args .codes .now)) (l .i) (l .k) (l .inv .2) (omega arith)
+    walk-ends (s .args .stream .now) (s .args .book .now) (l .book) (s .args .codes .now) (l .codes) (l .i) (l .k) (l .inv .2) (omega arith)
 
 pub run-spec : {M : Type 1} → statement M
 run-spec =

@@ -1,0 +1,75 @@
+-- `day_exposures::close_exposure` meets its contract.
+-- Assumes nothing.
+use mathlib.Core.Path.{sym, _∙_}
+use Rattle.book.specs.State.{state}
+use Rattle.rules.specs.DayChange.{exposureClosed}
+use Rattle.day_exposures.specs.Parts.{closesOn}
+use Rattle.day_exposures.proofs.Exposures.{closed-used, entire-back}
+use Rattle.day_rows.proofs.OnEach.{step-taken, step-left}
+use borrow.Author.Needs.{needs}
+use Rattle.day_exposures.proofs.close_exposure.Statement.{statement}
+use Rattle.day_exposures.proofs.close_exposure.Tie as tie
+
+is-exposure-closed-requires : tie.Need-is-exposure-closed-requires
+is-exposure-closed-requires c κs = search needs
+
+get-requires : tie.Need-get-requires
+get-requires c κs = search needs
+
+mul-row-at : tie.Need-mul-row-at
+mul-row-at c = search needs
+
+row-at-requires : tie.Need-row-at-requires
+row-at-requires c κs = search needs
+
+give-back-requires : tie.Need-give-back-requires
+give-back-requires c κs =
+    let yes = c .before .before .before .before .before .before in
+    let s = yes .before .before .before .before in
+    let used = closed-used (state (s .args .book .now)) (s .args .day) (s .args .e) (sym (yes .before .is-exposure-closed .ensures) ∙ yes .if1 .taken) in
+    (s .pre .0, entire-back (state (s .args .book .now)) (s .args .e) (s .pre .1) used (s .pre .2) (c .before .before .row-at .ensures))
+
+set-requires : tie.Need-set-requires
+set-requires c κs = search needs
+
+same-length : tie.Need-same-length
+same-length c = search needs
+
+returns : tie.Need-returns
+returns c =
+    let back = c .before .before .before .before .before .before in
+    let row = back .before .before .before in
+    let got = row .before .before in
+    let yes = got .before .before in
+    let s = yes .before .before .before .before in
+    let test = yes .before .is-exposure-closed .ensures in (
+      rw (sym test ∙ yes .if1 .taken) (got .get .ensures),
+      step-taken (closesOn (s .args .day)) exposureClosed (state (s .args .book .now)) (s .args .e) test (yes .if1 .taken)
+          (rw (c .before .before .set .ensures, back .give-back .ensures, row .row-at .ensures)),
+    )
+
+same-length-2 : tie.Need-same-length-2
+same-length-2 c = search needs
+
+returns-2 : tie.Need-returns-2
+returns-2 c =
+    let s = c .before .before .before .before in
+    let test = c .before .is-exposure-closed .ensures in (
+      rw (sym test ∙ c .if1 .left),
+      step-left (closesOn (s .args .day)) exposureClosed (state (s .args .book .now)) (s .args .e) test (c .if1 .left),
+    )
+
+pub close-exposure-spec : {M : Type 1} → statement M
+close-exposure-spec =
+    tie.close
+    (tie.spec
+    is-exposure-closed-requires
+    get-requires
+    mul-row-at
+    row-at-requires
+    give-back-requires
+    set-requires
+    same-length
+    returns
+    same-length-2
+    returns-2)

@@ -1,0 +1,56 @@
+-- What closing an exposure counts on, and the tests of an exposure.
+-- Assumes nothing.
+use mathlib.Core.Path.{_≡_}
+use mathlib.Core.Bool.{Bool, true, not, cond}
+use mathlib.Core.List.{List}
+use Prim.Native.Nat.{ℕ, _≤_, _<_}
+use lib.ListN.{length, getD}
+use Rattle.laws.specs.Sum.{sum}
+use Rattle.book.specs.Layout.{givers, takers, objects, closings, useds, exposureGivers, exposureTakers, exposureBaskets, exposureClosings, exposures}
+use Rattle.book.specs.State.{State}
+use Rattle.rules.specs.DayChange.{isExposureClosed, belongs}
+use Rattle.rules.specs.Requests.{hasKey}
+use Rattle.rules.specs.Sound.{holding}
+use Rattle.sound_setup.specs.Keys.{keyPlace}
+
+-- the test of an exposure to be closed, at a row of a state
+abbrev pub closesOn : ℕ → State → ℕ → Bool
+closesOn day s e = isExposureClosed s day e
+
+-- what an exposure adds to the amounts closed, and all of them
+abbrev pub amountClosed : State → ℕ → ℕ → ℕ
+amountClosed s day e = cond (isExposureClosed s day e) (s exposures e) 0
+
+abbrev pub amountsClosed : State → ℕ → ℕ
+amountsClosed s day = sum (amountClosed s day) 64
+
+-- what closing an exposure counts on, and keeps
+pub record Closable (s : State) : Type 0 where
+  pub giver : (e : ℕ) → e < 64 → s useds e ≡ 1 → s exposureGivers e < 32
+  pub amount : (e : ℕ) → e < 64 → s useds e ≡ 1 → s exposures e ≤ 10000000000000
+  pub held : (p i : ℕ) → p < 32 → i < 64 → holding s p i ≤ 500000000
+
+-- an exposure has the key of a FOP row; a row does not belong to an exposure
+abbrev pub hasKeyOf : State → ℕ → ℕ → Bool
+hasKeyOf s e i = hasKey s (s givers i) (s takers i) (s objects i) (s closings i) e
+
+abbrev pub isNotOf : State → ℕ → ℕ → Bool
+isNotOf s e i = not (belongs s e i)
+
+-- the place of the key of the exposure e
+abbrev pub placeOf : State → ℕ → ℕ
+placeOf s e = keyPlace (s exposureGivers e) (s exposureTakers e) (s exposureBaskets e) (s exposureClosings e)
+
+-- a row has the place of the exposure that it belongs to
+pub record Placed (s : State) (i place : ℕ) : Type 0 where
+  pub below : place < 1025
+  pub same : (e : ℕ) → e < 64 → belongs s e i ≡ true → place ≡ placeOf s e
+
+-- the exposures that the rows before i belong to are marked, each at its place
+pub record Marked (s : State) (marks : List ℕ) (i : ℕ) : Type 0 where
+  pub long : length marks ≡ 1025
+  pub each : (e j : ℕ) → e < 64 → j < i → belongs s e j ≡ true → getD marks (placeOf s e) 0 ≡ 1
+
+-- one exposure is marked, if a row belongs to it
+pub record MarkedFor (s : State) (marks : List ℕ) (e : ℕ) : Type 0 where
+  pub mark : (j : ℕ) → j < 256 → belongs s e j ≡ true → getD marks (placeOf s e) 0 ≡ 1

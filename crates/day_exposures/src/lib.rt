@@ -1,0 +1,234 @@
+// Kind 12, next day: exposures whose closing date is reached are closed, and idle ones freed.
+// An exposure is tested and changed in one pass: no test reads what the steps on those before it have changed.
+ghost use mathlib.Core.Path.{_≡_};
+ghost use Prim.Native.Nat.{_<_};
+ghost use lib.ListN.{length, replicate};
+ghost use Rattle.laws.specs.Search.{all};
+ghost use Rattle.book.specs.Layout.{bookLength};
+ghost use Rattle.book.specs.State.{state};
+ghost use Rattle.rules.specs.DayChange.{isExposureClosed, exposureClosed, exposuresClosed, belongs, isIdle, exposureFreed, exposuresFreed};
+ghost use Rattle.day_rows.specs.Parts.{tried};
+ghost use Rattle.day_exposures.specs.Parts.{closesOn, amountClosed, amountsClosed, Closable, hasKeyOf, isNotOf, placeOf, Placed, Marked, MarkedFor};
+use book::layout::CLOSINGS;
+use book::layout::EXPOSURE_BASKETS;
+use book::layout::EXPOSURE_CLOSINGS;
+use book::layout::EXPOSURE_GIVERS;
+use book::layout::EXPOSURE_TAKERS;
+use book::layout::EXPOSURES;
+use book::layout::GIVERS;
+use book::layout::KINDS;
+use book::layout::NUMBERS;
+use book::layout::OBJECTS;
+use book::layout::PARTNERS;
+use book::layout::POSITIONS;
+use book::layout::TAKERS;
+use book::layout::USEDS;
+
+// Is an exposure used, and its closing date reached?
+fn is_exposure_closed(book: &[u8], day: u64, e: usize) -> bool
+    requires { ⌜ (length (now book) ≡ bookLength) × (e < 64) ⌝ }
+    ensures { λ r. ⌜ r ≡ isExposureClosed (state (now (book .entry))) day e ⌝ }
+{
+    if book::get(book, USEDS, e) != 1 {
+        return false;
+    }
+    day_rows::is_reached(day, book::get(book, EXPOSURE_CLOSINGS, e))
+}
+
+// Closes an exposure whose closing date is reached, and gives its position back: the amount closed.
+fn close_exposure(book: &mut [u8], day: u64, e: usize) -> u64
+    requires { ⌜ (length (now book) ≡ bookLength) × (e < 64) × Closable (state (now book)) ⌝ }
+    ensures { λ r. ⌜ (r ≡ amountClosed (state (now (book .entry))) day e) × (state (now (book .exit)) ≡ tried (closesOn day) exposureClosed (state (now (book .entry))) e) ⌝ }
+{
+    if is_exposure_closed(book, day, e) {
+        let amount = book::get(book, EXPOSURES, e);
+        let position = book::row_at(book, POSITIONS, 64 * e);
+        bonds::give_back(book, e, &position);
+        book::set(book, EXPOSURES, e, 0);
+        amount
+    } else {
+        0
+    }
+}
+
+// Closes the exposures whose closing date is reached: the amounts closed.
+pub fn close_exposures(book: &mut [u8], day: u64) -> u64
+    requires { ⌜ (length (now book) ≡ bookLength) × Closable (state (now book)) ⌝ }
+    ensures { λ r. ⌜ (r ≡ amountsClosed (state (now (book .entry))) day) × (state (now (book .exit)) ≡ exposuresClosed (state (now (book .entry))) day) ⌝ }
+{
+    let mut closed: u64 = 0;
+    let mut e: usize = 0;
+    while e < 64 {
+        closed += close_exposure(book, day, e);
+        e += 1;
+    }
+    closed
+}
+
+// Is the exposure e used, with the key of the FOP row i?
+fn has_key_of(book: &[u8], e: usize, i: usize) -> bool
+    requires { ⌜ (length (now book) ≡ bookLength) × (e < 64) × (i < 256) ⌝ }
+    ensures { λ r. ⌜ r ≡ hasKeyOf (state (now (book .entry))) e i ⌝ }
+{
+    if book::get(book, USEDS, e) != 1 {
+        return false;
+    }
+    if book::get(book, EXPOSURE_GIVERS, e) != book::get(book, GIVERS, i) {
+        return false;
+    }
+    if book::get(book, EXPOSURE_TAKERS, e) != book::get(book, TAKERS, i) {
+        return false;
+    }
+    if book::get(book, EXPOSURE_BASKETS, e) != book::get(book, OBJECTS, i) {
+        return false;
+    }
+    book::get(book, EXPOSURE_CLOSINGS, e) == book::get(book, CLOSINGS, i)
+}
+
+// Does the row i belong to the exposure e: a return that names it, a FOP pair with its key?
+fn does_belong(book: &[u8], e: usize, i: usize) -> bool
+    requires { ⌜ (length (now book) ≡ bookLength) × (e < 64) × (i < 256) ⌝ }
+    ensures { λ r. ⌜ r ≡ belongs (state (now (book .entry))) e i ⌝ }
+{
+    if book::get(book, NUMBERS, i) == 0 {
+        return false;
+    }
+    let kind = book::get(book, KINDS, i);
+    if kind == 7 {
+        return book::get(book, OBJECTS, i) == e as u64;
+    }
+    if kind != 6 {
+        return false;
+    }
+    let partner = book::get(book, PARTNERS, i);
+    if partner == 0 {
+        return false;
+    }
+    has_key_of(book, e, i)
+}
+
+// Does no row belong to the exposure e?
+fn does_none_belong(book: &[u8], e: usize) -> bool
+    requires { ⌜ (length (now book) ≡ bookLength) × (e < 64) ⌝ }
+    ensures { λ r. ⌜ r ≡ all (isNotOf (state (now (book .entry))) e) 256 0 ⌝ }
+{
+    let mut i: usize = 0;
+    while i < 256 {
+        if does_belong(book, e, i) {
+            return false;
+        }
+        i += 1;
+    }
+    true
+}
+
+// The place of an exposure's key among 1,024.
+fn place_of(book: &[u8], e: usize) -> usize
+    requires { ⌜ (length (now book) ≡ bookLength) × (e < 64) ⌝ }
+    ensures { λ r. ⌜ (r ≡ placeOf (state (now (book .entry))) e) × (r < 1024) ⌝ }
+{
+    sound_setup::key_place(
+        book::get(book, EXPOSURE_GIVERS, e),
+        book::get(book, EXPOSURE_TAKERS, e),
+        book::get(book, EXPOSURE_BASKETS, e),
+        book::get(book, EXPOSURE_CLOSINGS, e),
+    )
+}
+
+// The place of the exposure that a row belongs to; any place for a row that belongs to none, as 1,024 for one that is not in use.
+fn row_place(book: &[u8], i: usize) -> usize
+    requires { ⌜ (length (now book) ≡ bookLength) × (i < 256) ⌝ }
+    ensures { λ r. ⌜ Placed (state (now (book .entry))) i r ⌝ }
+{
+    if book::get(book, NUMBERS, i) == 0 {
+        return 1024;
+    }
+    let object = book::get(book, OBJECTS, i);
+    if book::get(book, KINDS, i) == 7 {
+        if 64 <= object {
+            return 1024;
+        }
+        return place_of(book, object as usize);
+    }
+    sound_setup::key_place(
+        book::get(book, GIVERS, i),
+        book::get(book, TAKERS, i),
+        object,
+        book::get(book, CLOSINGS, i),
+    )
+}
+
+// Is there a used exposure of amount 0? Only time depends on it.
+fn is_any_empty(book: &[u8]) -> bool
+    requires { ⌜ length (now book) ≡ bookLength ⌝ }
+{
+    let mut e: usize = 0;
+    while e < 64 {
+        if book::get(book, USEDS, e) == 1 {
+            if book::get(book, EXPOSURES, e) == 0 {
+                return true;
+            }
+        }
+        e += 1;
+    }
+    false
+}
+
+// Marks the places of the exposures that rows belong to. Where no exposure is empty nobody looks for a mark, and all are left.
+fn mark_rows(marks: &mut [u8; 1025], book: &[u8])
+    requires { ⌜ (length (now book) ≡ bookLength) × (now marks ≡ replicate 1025 1) ⌝ }
+    ensures { λ _. ⌜ Marked (state (now (book .entry))) (now (marks .exit)) 256 ⌝ }
+{
+    if !is_any_empty(book) {
+        return;
+    }
+    *marks = [0; 1025];
+    let mut i: usize = 0;
+    while i < 256 {
+        let place = row_place(book, i);
+        marks[place] = 1;
+        i += 1;
+    }
+}
+
+// Is a used exposure of amount 0, with no row that belongs to it? The rows are looked through only where its place is marked.
+fn is_idle(book: &[u8], marks: &[u8; 1025], e: usize) -> bool
+    requires { ⌜ (length (now book) ≡ bookLength) × (e < 64) × MarkedFor (state (now book)) (now marks) e ⌝ }
+    ensures { λ r. ⌜ r ≡ isIdle (state (now (book .entry))) e ⌝ }
+{
+    if book::get(book, USEDS, e) != 1 {
+        return false;
+    }
+    if book::get(book, EXPOSURES, e) != 0 {
+        return false;
+    }
+    let place = place_of(book, e);
+    if marks[place] == 0 {
+        return true;
+    }
+    does_none_belong(book, e)
+}
+
+// Frees an exposure that is idle.
+fn free_exposure(book: &mut [u8], marks: &[u8; 1025], e: usize)
+    requires { ⌜ (length (now book) ≡ bookLength) × (e < 64) × MarkedFor (state (now book)) (now marks) e ⌝ }
+    ensures { λ _. ⌜ state (now (book .exit)) ≡ tried isIdle exposureFreed (state (now (book .entry))) e ⌝ }
+{
+    if is_idle(book, marks, e) {
+        day_rows::clear(book, 5, USEDS, e);
+    }
+}
+
+// Frees the exposures that are idle.
+pub fn free_exposures(book: &mut [u8])
+    requires { ⌜ length (now book) ≡ bookLength ⌝ }
+    ensures { λ _. ⌜ state (now (book .exit)) ≡ exposuresFreed (state (now (book .entry))) ⌝ }
+{
+    let mut marks = [1u8; 1025];
+    mark_rows(&mut marks, book);
+    let mut e: usize = 0;
+    while e < 64 {
+        free_exposure(book, &marks, e);
+        e += 1;
+    }
+}

@@ -1,0 +1,3 @@
+pub mod OnEach
+pub mod Rows
+pub mod Ways
