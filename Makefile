@@ -14,7 +14,7 @@ CFLAGS = -O2 -g
 
 # Where `make install` puts the library, its header, the tool and its page. DESTDIR goes before each path.
 PREFIX = /usr/local
-prefix = $(abspath $(PREFIX))
+prefix = $(if $(word 2,$(PREFIX)),$(error PREFIX may not have a space: '$(PREFIX)'),$(abspath $(PREFIX)))
 BINDIR = $(prefix)/bin
 LIBDIR = $(prefix)/lib
 INCLUDEDIR = $(prefix)/include
