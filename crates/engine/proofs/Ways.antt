@@ -21,7 +21,7 @@ use Rattle.rules.specs.Sound.{sound}
 use Rattle.totals.specs.Totals.{totalsOf}
 use Rattle.totals.specs.declared.Totals as totals
 use Rattle.book.proofs.Images.{image-state}
-use Rattle.ledger.proofs.Readings.{reading-taken}
+use Rattle.records.proofs.Readings.{reading-taken}
 use Rattle.engine.specs.Entry.{numbersOf, damage, Taken}
 
 -- the kind's byte

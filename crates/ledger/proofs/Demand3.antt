@@ -29,7 +29,7 @@ use Rattle.settlement_laws.proofs.Keeping.{keeps-settlement}
 use Rattle.marking_laws.proofs.Marking.{keeps-mark, keeps-recall}
 use Rattle.day_laws.proofs.NextDay.{keeps-next-day}
 use Rattle.ledger.proofs.Paper.{InOrder, on-paper, noted-steps}
-use Rattle.ledger.proofs.Readings.{reading-taken}
+use Rattle.records.proofs.Readings.{reading-taken}
 use Rattle.ledger.proofs.Steps.{StepsKeep, opening-in-order, taken-in-order}
 
 -- an accepted record: the reader took it, and no rule of its kind applies

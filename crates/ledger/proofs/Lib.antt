@@ -1,4 +1,3 @@
 pub mod Demand3
 pub mod Paper
-pub mod Readings
 pub mod Steps
