@@ -1,4 +1,5 @@
 pub mod Demand3
+pub mod Openings
 pub mod Paper
 pub mod Readings
 pub mod Steps
