@@ -208,14 +208,7 @@ module _ (s : State) (g : Good s) where
   exposures-freed-holding p i l = exposures-turned-holding s g 64 p i l
 
 module _ (s : State) where
-  -- the amounts stay, and an exposure in use was in use
+  -- the amounts stay
   pub exposures-freed-amount : (e : ℕ) → exposuresFreed s exposures e ≡ s exposures e
   unfolding exposuresFreed
   exposures-freed-amount e = rw (exposures-turned s 64)
-
-  pub exposures-freed-used : (e : ℕ) → exposuresFreed s useds e ≡ 1 → s useds e ≡ 1
-  unfolding exposuresFreed
-  exposures-freed-used e u =
-      let done = passed (isIdle s) 64 in
-      let k : freed s done useds e ≡ 1 = rw (exposures-turned s 64) at u in
-      ⊎-elim (λ (d : done e ≡ true). absurd (let z : 0 ≡ 1 = rw d at k in omega arith)) (λ (d : done e ≡ false). rw d at k) (either (done e))

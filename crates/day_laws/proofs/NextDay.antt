@@ -1,8 +1,9 @@
 -- The next day (kind 12) as a whole: a good book, each participant's bonds and the exposures' amounts.
 -- Assumes nothing.
-use mathlib.Core.Path.{_≡_, refl, sym, _∙_}
+use mathlib.Core.Path.{_≡_, refl, _∙_}
 use mathlib.Core.Bool.{Bool, true, false, cond}
 use Prim.Native.Nat.{ℕ, _+_, _<_}
+use native.Mathlib.Decide.{decLt}
 use native.Mathlib.Omega.{arith}
 use lib.Dec.{eqb}
 use Rattle.calendar.specs.Target.{nextOpenDay}
@@ -15,8 +16,8 @@ use Rattle.rules.specs.Outcome.{lowest}
 use Rattle.rules.specs.Sound.{holding}
 use Rattle.facts.proofs.Keeps.{Good, Amounts, Keeps}
 use Rattle.day_laws.proofs.Closed.{Closing, exposures-closed, exposures-closed-amount}
-use Rattle.day_laws.proofs.Freed.{exposures-freed-good, exposures-freed-holding, exposures-freed-amount, exposures-freed-used}
-use Rattle.day_laws.proofs.Paper.{told-settled, told-returned, told-passed}
+use Rattle.day_laws.proofs.Freed.{exposures-freed-good, exposures-freed-holding, exposures-freed-amount}
+use Rattle.day_laws.proofs.Paper.{told-settled, told-returned, told-ahead, told-passed}
 use Rattle.day_laws.proofs.Profiles.{next-day-open, new-day-good, profileTables, profiles-changed-good, profiles-changed-beside, profiles-changed-holding}
 use Rattle.day_laws.proofs.Remade.{among}
 use Rattle.day_laws.proofs.Rows.{requestTables, rows-dropped-good, rows-dropped-beside, rows-dropped-holding}
@@ -65,11 +66,7 @@ module _ (s : State) (g : Good s) (h : lowest (nextDayRules s) ≡ 0) where
   renewed-used : (e : ℕ) → renewed useds e ≡ s useds e
   renewed-used e = renewed-beside useds e refl refl refl
 
-  -- an exposure in use was in use, and has its amount unless it was closed
-  pub day-changed-used : (e : ℕ) → dayChanged s useds e ≡ 1 → s useds e ≡ 1
-  unfolding dayChanged
-  day-changed-used e u = sym (renewed-used e) ∙ sym (closing-kept .used e) ∙ exposures-freed-used closed e u
-
+  -- an exposure has its amount unless it was closed
   pub day-changed-amount : (e : ℕ) → e < 64 → dayChanged s exposures e ≡ cond (isExposureClosed s day e) 0 (s exposures e)
   unfolding dayChanged
   day-changed-amount e l =
@@ -82,16 +79,13 @@ module _ (s : State) (g : Good s) (h : lowest (nextDayRules s) ≡ 0) where
 
   -- "S − R − C": what was closed has left the amount
   day-changed-amounts : (p : Sums) → Amounts s p → Amounts (dayChanged s) (allNoted p (closings12 s day 64))
-  day-changed-amounts p a e l u =
-      omega (
-        arith,
-        told-settled s day p 64 e,
-        told-returned s day p 64 e,
-        told-passed s day p e 64 l,
-        day-changed-amount e l,
-        parts (isExposureClosed s day e) (s exposures e),
-        a e l (day-changed-used e u),
-      )
+  day-changed-amounts p a e =
+      let settled = told-settled s day p 64 e in
+      let returned = told-returned s day p 64 e in
+      elim (decLt e 64) [
+        | yes l ↦ omega (arith, told-passed s day p e 64 l, day-changed-amount e l, parts (isExposureClosed s day e) (s exposures e), a e)
+        | no l ↦ omega (arith, told-ahead s day p e 64 (omega arith), day-changed-good .fits .blank exposures e (omega arith), g .fits .blank exposures e (omega arith), a e)
+      ]
 
 -- an accepted next day
 pub keeps-next-day : (s : State) → Good s → lowest (nextDayRules s) ≡ 0 → Keeps s (nextDay s)

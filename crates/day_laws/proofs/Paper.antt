@@ -49,7 +49,7 @@ module _ (s : State) (day : ℕ) (p : Sums) where
     other-told : (n : ℕ) → (e ≡ n → ⊥) → told (suc n) .closes e ≡ told n .closes e
     other-told n d = ⊎-elim (λ c. rw (told-closed n c, ne-eqb e n d)) (λ c. rw (told-left n c)) (either (isExposureClosed s day n))
 
-    told-ahead : (n : ℕ) → n ≤ e → told n .closes e ≡ p .closes e
+    pub told-ahead : (n : ℕ) → n ≤ e → told n .closes e ≡ p .closes e
     unfolding closings12 allNoted
     told-ahead zero l = refl
     told-ahead (suc n) l = other-told n (omega arith) ∙ told-ahead n (omega arith)

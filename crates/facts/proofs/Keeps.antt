@@ -2,7 +2,7 @@
 -- Assumes nothing.
 use mathlib.Core.Path.{_≡_}
 use Prim.Native.Nat.{ℕ, _+_, _<_}
-use Rattle.book.specs.Layout.{useds, exposures}
+use Rattle.book.specs.Layout.{exposures}
 use Rattle.book.specs.State.{State, Fits}
 use Rattle.facts.proofs.Sums.{Sums, allNoted}
 use Rattle.rules.specs.Outcome.{Step}
@@ -14,9 +14,10 @@ pub record Good (s : State) : Type 0 where
   pub facts : Sound s
   pub fits : Fits s
 
--- each used exposure's amount is what was settled into it, less what was returned and closed
+-- each exposure row's amount is what was settled into it, less what was returned and closed, whether the row is in use or not: one
+-- that was freed holds 0, and keeps its sums until it is given out again. Past the last row nothing is ever noted, so e has no bound
 abbrev pub Amounts : State → Sums → Type 0
-Amounts s p = (e : ℕ) → e < 64 → s useds e ≡ 1 → p .returns e + p .closes e + s exposures e ≡ p .settledIn e
+Amounts s p = (e : ℕ) → p .returns e + p .closes e + s exposures e ≡ p .settledIn e
 
 -- what every step but an opening, a deposit and a withdrawal keeps
 pub record Keeps (s : State) (t : Step) : Type 0 where

@@ -1,4 +1,4 @@
--- What the events of a step add up to, for each exposure row. The ledger's own sums are shown to be these in crates/ledger.
+-- What the events of a step add up to, for each exposure row. The ledger's own sums are shown to give the same amounts in crates/ledger.
 -- Assumes nothing.
 use mathlib.Core.Path.{_≡_, refl}
 use mathlib.Core.Bool.{cond}

@@ -17,10 +17,9 @@ use Rattle.book.specs.State.{State, state, image}
 use Rattle.book.proofs.Images.{state-image, image-length}
 use Rattle.rules.specs.Call.{stepOf, recordCode, callCode, callBook}
 use Rattle.rules.specs.Codes.{openingRules, codeOf}
-use Rattle.ledger.specs.Ledger.{Call, send, ask, Paper, fresh, onPaper, takenDown, paperCode, paperNext, paperCodes, paperAfter, bookCode, bookNext, bookCodes, bookAfter, Agrees, Opened, Demand3}
+use Rattle.ledger.specs.Ledger.{Call, send, ask, Paper, onPaper, takenDown, paperCode, paperNext, paperCodes, paperAfter, bookCode, bookNext, bookCodes, bookAfter, Agrees, Opened, Demand3}
 use Rattle.rules.specs.Outcome.{lowest}
 use Rattle.rules.specs.Reads.{Read, readRules, readCode}
-use Rattle.rules.specs.SetUp.{opened}
 use Rattle.facts.proofs.Facts.{facts-sound}
 use Rattle.facts.proofs.Keeps.{Good}
 use Rattle.request_laws.proofs.Entering.{keeps-fop, keeps-return}
@@ -137,8 +136,8 @@ agrees b p e o =
       takers = λ e l. refl;
       baskets = λ e l. refl;
       closings = λ e l. refl;
-      amounts = λ e l u. omega (arith, o .amounts e l u);
-      not-below = λ e l u. omega (arith, o .amounts e l u);
+      amounts = λ e l. omega (arith, o .amounts e);
+      not-below = λ e l. omega (arith, o .amounts e);
     })
 
 -- the first call, an accepted opening: whatever the book held, and whatever stood on the paper
@@ -169,12 +168,12 @@ module _ (b bytes : List ℕ) (o : Opened b bytes) where
   unfolding recordCode codeOf
   opening-code s = rw (record-taken, kind-zero) no-rule
 
-  opened-book : callBook b bytes ≡ image (opened (read bytes .fields) .state)
-  unfolding callBook stepOf
-  opened-book = rw (o .accepted, kind-zero)
+  opened-book : (p : Paper) → callBook b bytes ≡ image (takenDown p 0 (read bytes .fields) .steps)
+  unfolding callBook takenDown stepOf
+  opened-book p = rw (o .accepted, kind-zero)
 
-  opened-paper : (p : Paper) → paperNext p (send bytes) ≡ fresh (opened (read bytes .fields) .state)
-  unfolding paperNext takenDown stepOf
+  opened-paper : (p : Paper) → paperNext p (send bytes) ≡ takenDown p 0 (read bytes .fields)
+  unfolding paperNext
   opened-paper p = rw (opening-code (onPaper p), kind-zero)
 
 -- demand 3, by what the kinds 6 to 12 keep
@@ -182,8 +181,8 @@ pub demand-3-from : StepsKeep → Demand3
 unfolding bookCode bookNext paperCode bookCodes bookAfter paperCodes paperAfter
 demand-3-from laws b p bytes calls o =
     let next = opened-paper b bytes o p in
-    let start : InOrder (paperNext p (send bytes)) = rw next (opening-in-order (read bytes .fields) (legal b bytes o) (no-rule b bytes o)) in
-    let book : callBook b bytes ≡ image (paperNext p (send bytes) .steps) = rw next (opened-book b bytes o) in
+    let start : InOrder (paperNext p (send bytes)) = rw next (opening-in-order p (read bytes .fields) (legal b bytes o) (no-rule b bytes o)) in
+    let book : callBook b bytes ≡ image (paperNext p (send bytes) .steps) = rw next (opened-book b bytes o p) in
     let rest = run laws calls (callBook b bytes) (paperNext p (send bytes)) book start in
     record {
       codes = ap₂ _∷_ (o .accepted ∙ sym (opening-code b bytes o (onPaper p))) (rest .codes);

@@ -1,13 +1,16 @@
 -- The paper in order: what holds of it after every list of calls, and what each event leaves alone.
 -- Assumes nothing.
-use mathlib.Core.Path.{_≡_, refl, ap, sym, subst, _∙_, fun-ext}
-use mathlib.Core.Bool.{and-false}
+use mathlib.Core.Path.{_≡_, refl, ap, _∙_, fun-ext}
+use mathlib.Core.Bool.{true, false}
 use mathlib.Core.List.{List, [], _∷_}
+use mathlib.Core.Logic.{⊎-elim}
 use Prim.Native.Nat.{ℕ, _+_, _<_}
-use native.Mathlib.Decide.{ℕ-discrete, decLt}
+use native.Mathlib.Decide.{ℕ-discrete}
 use native.Mathlib.Omega.{arith}
+use lib.Dec.{eqb}
 use borrow.Author.Tests.{eq-eqb, ne-eqb}
-use Rattle.book.specs.Layout.{useds, exposures}
+use Rattle.laws.proofs.Cases.{either}
+use Rattle.book.specs.Layout.{exposures}
 use Rattle.ledger.specs.Ledger.{Paper, onPaper, noted, allNoted}
 use Rattle.rules.specs.Outcome.{Event, given, settled, returned, closed}
 use Rattle.rules.specs.Sound.{holding}
@@ -19,7 +22,7 @@ use Rattle.facts.proofs.Sums as told
 abbrev pub sumsOf : Paper → Sums
 sumsOf p = record { settledIn = p .settledIn; returns = p .returns; closes = p .closes }
 
--- a sound state, each exposure's amount by its sums, each participant's bonds by theirs
+-- a sound state, each exposure row's amount by its sums, each participant's bonds by theirs
 pub record InOrder (p : Paper) : Type 0 where
   pub good : Good (p .steps)
   pub amounts : Amounts (p .steps) (sumsOf p)
@@ -27,18 +30,11 @@ pub record InOrder (p : Paper) : Type 0 where
 
 -- what the Steps are run on is the paper's state: the amounts by the sums are the amounts
 module _ (p : Paper) (o : InOrder p) where
-  used-below : (e : ℕ) → p .steps useds e ≡ 1 → e < 64
-  used-below e u = elim (decLt e 64) [ yes l ↦ l | no l ↦ absurd (omega (arith, o .good .fits .blank useds e (omega arith))) ]
-
   on-paper-at : (f i : ℕ) → onPaper p f i ≡ p .steps f i
   unfolding onPaper
   on-paper-at f i =
       elim (ℕ-discrete f exposures) [
-        | yes e ↦
-            elim (ℕ-discrete (p .steps useds i) 1) [
-              | yes u ↦ rw (eq-eqb f exposures e, eq-eqb (p .steps useds i) 1 u, e) (omega (arith, o .amounts i (used-below i u) u))
-              | no u ↦ rw (ne-eqb (p .steps useds i) 1 u, and-false)
-            ]
+        | yes e ↦ rw (eq-eqb f exposures e, e) (omega (arith, o .amounts i))
         | no e ↦ rw (ne-eqb f exposures e)
       ]
 
@@ -55,17 +51,25 @@ noted-plain p (settled e x) = refl
 noted-plain p (returned e x) = refl
 noted-plain p (closed e x) = refl
 
--- the ledger notes each event as the steps tell it
-noted-sums : (p : Paper) (e : Event) → sumsOf (noted p e) ≡ told.noted (sumsOf p) e
-noted-sums p (given e) = refl
-noted-sums p (settled e x) = refl
-noted-sums p (returned e x) = refl
-noted-sums p (closed e x) = refl
+-- two counts of the rows' sums give the same amounts: S − R − C is the same in every row
+abbrev SameAmounts : Sums → Sums → Type 0
+SameAmounts a b = (d : ℕ) → a .settledIn d + (b .returns d + b .closes d) ≡ b .settledIn d + (a .returns d + a .closes d)
 
-all-sums : (p : Paper) (es : List Event) → sumsOf (allNoted p es) ≡ told.allNoted (sumsOf p) es
+-- the row that an event names, and any other
+in-row : {A : Type 0} (d e : ℕ) → (eqb d e ≡ true → A) → (eqb d e ≡ false → A) → A
+in-row d e own other = ⊎-elim own other (either (eqb d e))
+
+-- an event moves an amount on paper as the step that tells it moves the row's
+noted-amounts : (p : Paper) (q : Sums) (e : Event) → SameAmounts (sumsOf p) q → SameAmounts (sumsOf (noted p e)) (told.noted q e)
+noted-amounts p q (given e) h d = in-row d e (λ t. rw t (omega arith)) (λ t. rw t (h d))
+noted-amounts p q (settled e x) h d = in-row d e (λ t. rw t (omega (arith, h d))) (λ t. rw t (h d))
+noted-amounts p q (returned e x) h d = in-row d e (λ t. rw t (omega (arith, h d))) (λ t. rw t (h d))
+noted-amounts p q (closed e x) h d = in-row d e (λ t. rw t (omega (arith, h d))) (λ t. rw t (h d))
+
+all-amounts : (es : List Event) (p : Paper) (q : Sums) → SameAmounts (sumsOf p) q → SameAmounts (sumsOf (allNoted p es)) (told.allNoted q es)
 unfolding allNoted told.allNoted
-all-sums p [] = refl
-all-sums p (e ∷ es) = all-sums (noted p e) es ∙ ap (λ (q : Sums). told.allNoted q es) (noted-sums p e)
+all-amounts [] p q h = h
+all-amounts (e ∷ es) p q h = all-amounts es (noted p e) (told.noted q e) (noted-amounts p q e h)
 
 all-plain : (p : Paper) (es : List Event) → plain (allNoted p es) ≡ plain p
 unfolding allNoted
@@ -81,4 +85,8 @@ pub noted-in-order : (p : Paper) (es : List Event) → Good (p .steps) → Amoun
 noted-in-order p es g a b =
     let d : allNoted p es .deposits ≡ p .deposits = ap (λ (q : Paper). q .deposits) (all-plain p es) in
     let w : allNoted p es .withdrawals ≡ p .withdrawals = ap (λ (q : Paper). q .withdrawals) (all-plain p es) in
-    record { good = rw (noted-steps p es) g; amounts = rw (noted-steps p es) (subst (Amounts (p .steps)) (sym (all-sums p es)) a); bonds = λ q i h l. rw (noted-steps p es, w, d) (b q i h l) }
+    record {
+      good = rw (noted-steps p es) g;
+      amounts = rw (noted-steps p es) (λ e. omega (arith, all-amounts es p (sumsOf p) (λ d. refl) e, a e));
+      bonds = λ q i h l. rw (noted-steps p es, w, d) (b q i h l);
+    }

@@ -19,7 +19,7 @@ use Rattle.rules.specs.Requesting.{entered, cancelled}
 use Rattle.rules.specs.Settlement.{settlement}
 use Rattle.rules.specs.SetUp.{opened, priced, enrolled, basketMade, deposited, withdrawn}
 use Rattle.facts.proofs.Keeps.{Good, Keeps}
-use Rattle.setup_laws.proofs.SetUp.{good-opening, opening-holds, opening-unused, keeps-price, keeps-participant, keeps-basket, nominalAt, deposit, withdrawal}
+use Rattle.setup_laws.proofs.SetUp.{good-opening, opening-holds, opening-amount, keeps-price, keeps-participant, keeps-basket, nominalAt, deposit, withdrawal}
 use Rattle.ledger.proofs.Paper.{sumsOf, InOrder, on-paper, noted-in-order}
 
 -- what the kinds 6 to 12 keep
@@ -33,10 +33,11 @@ pub record StepsKeep : Type 0 where
   pub next-day : (s : State) → Good s → lowest (nextDayRules s) ≡ 0 → Keeps s (nextDay s)
 
 -- an opening, whatever stood on the paper
-pub opening-in-order : (r : List ℕ) → areLegal 0 r ≡ true → lowest (openingRules r) ≡ 0 → InOrder (fresh (opened r .state))
-opening-in-order r legal accepted = record {
+pub opening-in-order : (p : Paper) (r : List ℕ) → areLegal 0 r ≡ true → lowest (openingRules r) ≡ 0 → InOrder (takenDown p 0 r)
+unfolding takenDown stepOf
+opening-in-order p r legal accepted = record {
   good = good-opening r legal accepted;
-  amounts = λ e l u. absurd (omega (arith, opening-unused r legal accepted e));
+  amounts = λ e. omega (arith, opening-amount r legal accepted e);
   bonds = λ q i h l. omega (arith, opening-holds r legal accepted q i);
 }
 
@@ -83,7 +84,7 @@ module _ (p : Paper) (o : InOrder p) (r : List ℕ) where
   at n k l last before = elim (ℕ-discrete k n) [ yes e ↦ rw e last | no e ↦ before (omega arith) ]
 
   setting-up : (k : ℕ) → k < 6 → Kept k
-  unfolding stepOf codeOf
+  unfolding stepOf codeOf takenDown
   setting-up k l5 =
       let s = p .steps in
       at 5 k l5 withdrawal-in-order (λ l4.
@@ -91,7 +92,7 @@ module _ (p : Paper) (o : InOrder p) (r : List ℕ) where
       at 3 k l3 (λ legal accepted. kept-in-order 3 (basketMade s r) refl refl (keeps-basket s r (o .good) legal accepted)) (λ l2.
       at 2 k l2 (λ legal accepted. kept-in-order 2 (enrolled s r) refl refl (keeps-participant s r (o .good) legal)) (λ l1.
       at 1 k l1 (λ legal accepted. kept-in-order 1 (priced s r) refl refl (keeps-price s r (o .good) legal accepted)) (λ l0.
-      at 0 k l0 (opening-in-order r) (λ n. absurd (omega arith)))))))
+      at 0 k l0 (opening-in-order p r) (λ n. absurd (omega arith)))))))
 
   each-kind : StepsKeep → (k : ℕ) → k < 13 → Kept k
   unfolding stepOf codeOf

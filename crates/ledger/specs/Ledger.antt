@@ -2,10 +2,13 @@
 -- Assumes nothing.
 use mathlib.Core.Path.{_≡_}
 use mathlib.Core.Bool.{true, _&&_, cond}
-use mathlib.Core.List.{List, [], _∷_}
+use mathlib.Core.List.{List, [], _∷_, _++_}
 use Prim.Native.Nat.{ℕ, _+_, _-_, _≤_, _<_}
 use lib.Dec.{eqb}
-use Rattle.book.specs.Layout.{useds, exposureGivers, exposureTakers, exposureBaskets, exposureClosings, exposures}
+use lib.ListN.{length, replicate}
+use Rattle.laws.specs.Numbers.{bytesOf}
+use Rattle.calendar.specs.Target.{openDay}
+use Rattle.book.specs.Layout.{bookLength, useds, exposureGivers, exposureTakers, exposureBaskets, exposureClosings, exposures}
 use Rattle.book.specs.State.{State, state}
 use Rattle.records.specs.Reading.{read}
 use Rattle.rules.specs.Call.{stepOf, recordCode, opens, callCode, callBook}
@@ -31,17 +34,19 @@ pub record Paper : Type 0 where
 abbrev pub amountOnPaper : Paper → ℕ → ℕ
 amountOnPaper p e = p .settledIn e - p .returns e - p .closes e
 
--- what the Steps are run on: the paper, with each exposure's amount by its sums
+-- what the Steps are run on: the paper, with the amount of each exposure row by its sums
 unfoldable pub onPaper : Paper → State
-onPaper p f i = cond (eqb f exposures && eqb (p .steps useds i) 1) (amountOnPaper p i) (p .steps f i)
+onPaper p f i = cond (eqb f exposures) (amountOnPaper p i) (p .steps f i)
 
--- a sum with n more at one place
+-- "is added to": a sum of each exposure row with n more in the row e
 abbrev pub more : (ℕ → ℕ) → ℕ → ℕ → ℕ → ℕ
 more f e n d = cond (eqb d e) (f d + n) (f d)
 
+-- "adds to": a sum of each participant and security with n more at the participant p and the security i
 abbrev pub more2 : (ℕ → ℕ → ℕ) → ℕ → ℕ → ℕ → ℕ → ℕ → ℕ
 more2 f p i n q j = cond (eqb q p && eqb j i) (f q j + n) (f q j)
 
+-- "starts with .. 0": a sum of each exposure row with 0 in the row e
 abbrev pub zeroAt : (ℕ → ℕ) → ℕ → ℕ → ℕ
 zeroAt f e d = cond (eqb d e) 0 (f d)
 
@@ -81,11 +86,12 @@ noted p (closed e x) = record {
   closes = more (p .closes) e x;
 }
 
+-- what a step tells of the exposure rows, one event after the other
 unfoldable pub allNoted : Paper → List Event → Paper
 allNoted p [] = p
 allNoted p (e ∷ es) = allNoted (noted p e) es
 
--- the paper with the state that a step leaves
+-- "takes its step there": the paper with the state that a step leaves
 abbrev pub stepped : Paper → State → Paper
 stepped p s = record {
   steps = s;
@@ -111,7 +117,7 @@ lodged p k r = record {
   closes = p .closes;
 }
 
--- an accepted record on paper
+-- "A call with 0 is accepted and takes its step there": an accepted record of kind k and fields r on paper
 unfoldable pub takenDown : Paper → ℕ → List ℕ → Paper
 takenDown p k r =
     let step = stepOf (onPaper p) k r in
@@ -127,35 +133,40 @@ unfoldable pub paperNext : Paper → Call → Paper
 paperNext p (send bytes) = cond (eqb (recordCode (onPaper p) bytes) 0) (takenDown p (read bytes .kind) (read bytes .fields)) p
 paperNext p (ask q) = p
 
--- a list of calls on paper: the codes, and the paper after it
+-- "It is fed the list's calls with their arguments, no answer and no byte of the book": the codes of a list on paper
 unfoldable pub paperCodes : Paper → List Call → List ℕ
 paperCodes p [] = []
 paperCodes p (c ∷ cs) = paperCode p c ∷ paperCodes (paperNext p c) cs
 
+-- the paper after the list
 unfoldable pub paperAfter : Paper → List Call → Paper
 paperAfter p [] = p
 paperAfter p (c ∷ cs) = paperAfter (paperNext p c) cs
 
--- the same list on the book: "each call getting the book that the last one left and nothing else writing to it"
+-- the same calls on the book: the code that the engine gives
 unfoldable pub bookCode : List ℕ → Call → ℕ
 bookCode b (send bytes) = callCode b bytes
 bookCode b (ask q) = readCode b q
 
+-- the book that a call leaves; a read leaves it as it was
 unfoldable pub bookNext : List ℕ → Call → List ℕ
 bookNext b (send bytes) = callBook b bytes
 bookNext b (ask q) = b
 
+-- "each call getting the book that the last one left and nothing else writing to it": the codes of the list
 unfoldable pub bookCodes : List ℕ → List Call → List ℕ
 bookCodes b [] = []
 bookCodes b (c ∷ cs) = bookCode b c ∷ bookCodes (bookNext b c) cs
 
+-- the book after the list
 unfoldable pub bookAfter : List ℕ → List Call → List ℕ
 bookAfter b [] = b
 bookAfter b (c ∷ cs) = bookAfter (bookNext b c) cs
 
--- what holds after the list
+-- "this holds after the list"
 pub record Agrees (s : State) (p : Paper) : Type 0 where
-  -- "the account plus the positions of the giver's exposures hold exactly its accepted deposits less its accepted withdrawals"
+  -- "For every giver and security, the account plus the positions of the giver's exposures hold exactly its accepted deposits less its
+  -- accepted withdrawals since the last accepted opening": a difference that does not go below 0
   pub bonds : (q i : ℕ) → q < 32 → i < 64 → holding s q i ≡ p .deposits q i - p .withdrawals q i
   pub withdrawn-within : (q i : ℕ) → q < 32 → i < 64 → p .withdrawals q i ≤ p .deposits q i
   -- "The exposures in use are exactly those of document 01's ledger, in the same rows and under the same keys"
@@ -164,15 +175,18 @@ pub record Agrees (s : State) (p : Paper) : Type 0 where
   pub takers : (e : ℕ) → e < 64 → s exposureTakers e ≡ p .steps exposureTakers e
   pub baskets : (e : ℕ) → e < 64 → s exposureBaskets e ≡ p .steps exposureBaskets e
   pub closings : (e : ℕ) → e < 64 → s exposureClosings e ≡ p .steps exposureClosings e
-  -- "the amount of each equals the amounts settled into it less those returned and those closed since its row was last given out"
-  pub amounts : (e : ℕ) → e < 64 → s useds e ≡ 1 → s exposures e ≡ amountOnPaper p e
-  pub not-below : (e : ℕ) → e < 64 → s useds e ≡ 1 → p .returns e + p .closes e ≤ p .settledIn e
+  -- "the amount of each equals the amounts settled into it less those returned and those closed since its row was last given out": a
+  -- difference that does not go below 0. It is said of every row, in use or not: an exposure that a day change zeroes is freed by the
+  -- same day change, so C is 0 in every row in use, and said of those alone it would hold of a ledger that forgets closings
+  pub amounts : (e : ℕ) → e < 64 → s exposures e ≡ amountOnPaper p e
+  pub not-below : (e : ℕ) → e < 64 → p .returns e + p .closes e ≤ p .settledIn e
 
 -- a list "that begins with an accepted opening, whatever the book held before"
 pub record Opened (b bytes : List ℕ) : Type 0 where
   pub kind : opens bytes ≡ true
   pub accepted : callCode b bytes ≡ 0
 
+-- "this holds after the list", and "every call in the list gave the ledger's code"
 pub record Holds (b : List ℕ) (p : Paper) (calls : List Call) : Type 0 where
   pub codes : bookCodes b calls ≡ paperCodes p calls
   pub agrees : Agrees (state (bookAfter b calls)) (paperAfter p calls)
@@ -181,3 +195,15 @@ pub record Holds (b : List ℕ) (p : Paper) (calls : List Call) : Type 0 where
 -- entries, whose answers and books are callAnswer, callBook and readAnswer for all lent bytes, and whose reads leave the book as it was
 abbrev pub Demand3 : Type 0
 Demand3 = (b : List ℕ) (p : Paper) (bytes : List ℕ) (calls : List Call) → Opened b bytes → Holds b p (send bytes ∷ calls)
+
+-- an opening's bytes: its kind, "day 32, tolerance 32"
+abbrev pub openingOf : ℕ → ℕ → List ℕ
+openingOf day tolerance = 0 ∷ (bytesOf 4 day ++ bytesOf 4 tolerance)
+
+-- there are lists that demand 3 speaks of: "Every other call is accepted", so openings are
+pub record OpeningAccepted : Type 0 where
+  -- on every book of the right length, of every open day, with every "tolerance 32 (1 to 100,000,000)"
+  pub every : (b : List ℕ) (day tolerance : ℕ) → length b ≡ bookLength → openDay day ≡ true → 1 ≤ tolerance → tolerance ≤ 100000000
+      → Opened b (openingOf day tolerance)
+  -- the first record of document 01's input, "0: 1, 10000", on the program's book that "starts as zero bytes"
+  pub first-line : Opened (replicate bookLength 0) (0 ∷ 0 ∷ 0 ∷ 0 ∷ 1 ∷ 0 ∷ 0 ∷ 39 ∷ 16 ∷ [])

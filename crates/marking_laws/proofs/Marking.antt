@@ -1,6 +1,6 @@
 -- A mark and an accepted recall leave a good book, each participant's bonds and the exposures' amounts.
 -- Assumes nothing.
-use mathlib.Core.Path.{_≡_, refl, sym, _∙_}
+use mathlib.Core.Path.{_≡_, refl, _∙_}
 use mathlib.Core.Bool.{true, cond}
 use mathlib.Core.List.{List, [], _∷_}
 use mathlib.Core.Logic.{inl, inr, ⊎-elim}
@@ -135,8 +135,8 @@ module _ (s : State) where
     kept-searched = kept-then kept-givenBack (kept-pass shortfallIn kept-shortfall (givenBack s) (kept-givenBack .good) 64 (le-refl 64))
 
 -- amounts stay where bonds alone move
-amounts-kept : {s t : State} → Bonds s t → (e : ℕ) → (t useds e ≡ s useds e) × (t exposures e ≡ s exposures e)
-amounts-kept b e = (b .others useds e (λ q. omega arith) (λ q. omega arith), b .others exposures e (λ q. omega arith) (λ q. omega arith))
+amounts-kept : {s t : State} → Bonds s t → (e : ℕ) → t exposures e ≡ s exposures e
+amounts-kept b e = b .others exposures e (λ q. omega arith) (λ q. omega arith)
 
 pub keeps-mark : (s : State) → Good s → Keeps s (marked s)
 unfolding marked allNoted
@@ -145,7 +145,7 @@ keeps-mark s h =
     record {
       good = k .good;
       bonds = k .bonds;
-      amounts = λ p a e l u. let m = amounts-kept (searched-bonds s) e in rw (m .1) (a e l (sym (m .0) ∙ u));
+      amounts = λ p a e. rw (amounts-kept (searched-bonds s) e) (a e);
     }
 
 module _ (s : State) (r : List ℕ) where
@@ -216,5 +216,5 @@ keeps-recall s r h legal free =
     record {
       good = k .good;
       bonds = k .bonds;
-      amounts = λ p a e l u. let m = amounts-kept (substituted-bonds s r) e in rw (m .1) (a e l (sym (m .0) ∙ u));
+      amounts = λ p a e. rw (amounts-kept (substituted-bonds s r) e) (a e);
     }

@@ -98,10 +98,10 @@ module _ (s : State) (r : List ℕ) (e : ℕ) where
 
     amounts : (p : Sums) → Amounts s p → Amounts with (allNoted p (given e ∷ []))
     unfolding allNoted
-    amounts p h d l u =
+    amounts p h d =
         elim (ℕ-discrete d e) [
           | yes m ↦ rw (eq-eqb d e m, m) (omega (arith, no-exposure s e (good .facts .exposure e row) unused .amount))
-          | no m ↦ rw (ne-eqb d e m) (h d l (sym (other d m useds) ∙ u))
+          | no m ↦ rw (ne-eqb d e m) (h d)
         ]
 
     module _ (parties : Parties s (giverIn r) (takerIn r)) (f : FopIn s r) where

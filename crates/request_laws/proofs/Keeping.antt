@@ -1,10 +1,10 @@
 -- What a step keeps: of request rows alone, and one after another.
 -- Assumes nothing.
-use mathlib.Core.Path.{_≡_, refl, sym, _∙_}
+use mathlib.Core.Path.{_≡_, refl, _∙_}
 use mathlib.Core.Bool.{true}
 use mathlib.Core.List.{List, []}
 use Prim.Native.Nat.{ℕ, _<_}
-use Rattle.book.specs.Layout.{numbers, useds, exposures}
+use Rattle.book.specs.Layout.{numbers, exposures}
 use Rattle.book.specs.State.{State, Fits}
 use Rattle.facts.proofs.Sums.{allNoted}
 use Rattle.rules.specs.Outcome.{Step, Event}
@@ -23,7 +23,7 @@ unfolding allNoted
 rows-keep a b m c good same rows distinct fits = record {
   good = record { facts = rows-covered c (good .facts) same rows distinct; fits = fits };
   bonds = λ p i k l. bonds-kept c (good .facts) p i l;
-  amounts = λ p h e l u. rw (c .left exposures e refl) (h e l (sym (same e l useds refl) ∙ u));
+  amounts = λ p h e. rw (c .left exposures e refl) (h e);
 }
 
 -- one step after another that tells nothing

@@ -1,6 +1,6 @@
 -- What a whole settlement keeps: by induction over the pairs that settle.
 -- Assumes nothing.
-use mathlib.Core.Path.{_≡_, refl, sym, _∙_}
+use mathlib.Core.Path.{_≡_, refl, _∙_}
 use mathlib.Core.List.{[]}
 use mathlib.Core.Logic.{⊎-elim}
 use Prim.Native.Nat.{ℕ, zero, suc, _+_, _-_, _≤_, _<_}
@@ -9,7 +9,7 @@ use native.Mathlib.Omega.{arith}
 use lib.Dec.{eqb}
 use borrow.Author.Tests.{eq-eqb, ne-eqb, eqb-false}
 use Rattle.laws.proofs.Cases.{either}
-use Rattle.book.specs.Layout.{kinds, objects, useds, exposures}
+use Rattle.book.specs.Layout.{kinds, objects, exposures}
 use Rattle.book.specs.State.{State}
 use Rattle.facts.proofs.Sums.{Sums, noted, allNoted, noted-one}
 use Rattle.rules.specs.Outcome.{settled, returned}
@@ -18,21 +18,21 @@ use Rattle.rules.specs.Settlement.{Settling, orderOf, nextDue, returnAmount, re
 use Rattle.rules.specs.Sound.{holding}
 use Rattle.facts.proofs.Keeps.{Good, Amounts, Keeps}
 use Rattle.settlement_laws.proofs.Finding.{Due, due-row}
-use Rattle.settlement_laws.proofs.Settling.{return-good, return-bonds, return-within, return-exposure, return-other, return-used, fop-good, fop-bonds, fop-exposure, fop-other, fop-used}
+use Rattle.settlement_laws.proofs.Settling.{return-good, return-bonds, return-within, return-exposure, return-other, fop-good, fop-bonds, fop-exposure, fop-other}
 
 -- the paper follows the exposure that changes
-module _ (s t : State) (e x : ℕ) (used : (d : ℕ) → t useds d ≡ s useds d) (other : (d : ℕ) → (d ≡ e → ⊥) → t exposures d ≡ s exposures d) (p : Sums) (a : Amounts s p) where
+module _ (s t : State) (e x : ℕ) (other : (d : ℕ) → (d ≡ e → ⊥) → t exposures d ≡ s exposures d) (p : Sums) (a : Amounts s p) where
   pub settled-amounts : t exposures e ≡ s exposures e + x → Amounts t (noted p (settled e x))
-  settled-amounts own d l u =
-      let before = a d l (sym (used d) ∙ u) in
+  settled-amounts own d =
+      let before = a d in
       elim (ℕ-discrete d e) [
         | yes q ↦ rw (eq-eqb d e q) (let now : t exposures d ≡ s exposures d + x = rw q own in omega arith)
         | no n ↦ rw (ne-eqb d e n) (omega (arith, other d n))
       ]
 
   pub returned-amounts : x ≤ s exposures e → t exposures e ≡ s exposures e - x → Amounts t (noted p (returned e x))
-  returned-amounts within own d l u =
-      let before = a d l (sym (used d) ∙ u) in
+  returned-amounts within own d =
+      let before = a d in
       elim (ℕ-discrete d e) [
         | yes q ↦ rw (eq-eqb d e q) (let now : t exposures d ≡ s exposures d - x = rw q own in let some : x ≤ s exposures d = rw q within in omega arith)
         | no n ↦ rw (ne-eqb d e n) (omega (arith, other d n))
@@ -57,7 +57,7 @@ module _ (s : State) where
         bonds = λ p j m l. return-bonds t i (k .good) (d .below) (d .used) (d .paired) kind p j m l ∙ k .bonds p j m l;
         amounts = λ p a.
             rw (noted-one p (w .events) (returned (t objects i) (returnAmount t i)))
-            (returned-amounts t (returnSettled t i) (t objects i) (returnAmount t i) (return-used t i) (return-other t i) (allNoted p (w .events)) (k .amounts p a) (return-within t i) (return-exposure t i));
+            (returned-amounts t (returnSettled t i) (t objects i) (returnAmount t i) (return-other t i) (allNoted p (w .events)) (k .amounts p a) (return-within t i) (return-exposure t i));
       }))
       (either (eqb (returnAmount t i) 0))
 
@@ -73,7 +73,7 @@ module _ (s : State) where
         bonds = λ p j m l. fop-bonds t i (k .good) (d .below) (d .used) (d .paired) kind p j m l ∙ k .bonds p j m l;
         amounts = λ p a.
             rw (noted-one p (w .events) (settled (exposureOfFop t i) (fopAmount t i)))
-            (settled-amounts t (fopSettled t i) (exposureOfFop t i) (fopAmount t i) (fop-used t i) (fop-other t i) (allNoted p (w .events)) (k .amounts p a) (fop-exposure t i));
+            (settled-amounts t (fopSettled t i) (exposureOfFop t i) (fopAmount t i) (fop-other t i) (allNoted p (w .events)) (k .amounts p a) (fop-exposure t i));
       }))
       (either (eqb (fopAmount t i) 0))
 

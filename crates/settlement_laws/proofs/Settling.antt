@@ -66,10 +66,6 @@ module _ (s : State) (i : ℕ) where
   unfolding returnSettled
   return-other d n = put-other (bothSettled s i (returnAmount s i)) exposures named left d n
 
-  pub return-used : (d : ℕ) → returnSettled s i useds d ≡ s useds d
-  unfolding returnSettled
-  return-used d = refl
-
   pub fop-exposure : fopSettled s i exposures target ≡ s exposures target + fopAmount s i
   unfolding fopSettled
   fop-exposure = put-same (bothSettled s i (fopAmount s i)) exposures target (s exposures target + fopAmount s i)
@@ -77,10 +73,6 @@ module _ (s : State) (i : ℕ) where
   pub fop-other : (d : ℕ) → (d ≡ target → ⊥) → fopSettled s i exposures d ≡ s exposures d
   unfolding fopSettled
   fop-other d n = put-other (bothSettled s i (fopAmount s i)) exposures target (s exposures target + fopAmount s i) d n
-
-  pub fop-used : (d : ℕ) → fopSettled s i useds d ≡ s useds d
-  unfolding fopSettled
-  fop-used d = refl
 
   -- at most the rest of a FOP settles, and nothing where the rest would take the exposure above 10^13
   pub fop-within : fopAmount s i ≤ restOf s i

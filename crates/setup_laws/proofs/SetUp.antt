@@ -17,7 +17,7 @@ use Rattle.calendar.specs.Target.{openDay}
 use Rattle.calendar.proofs.OpenDays.{open-within}
 use Rattle.records.specs.Kinds.{kinds}
 use Rattle.records.specs.Writing.{areLegal}
-use Rattle.book.specs.Layout.{today, tolerance, nextNumber, lots, prices, haircuts, quotes, modes, lists, partials, waitingModes, waitingLists, waitingPartials, maps, ages, useds, accounts, rowsOf, widthOf}
+use Rattle.book.specs.Layout.{today, tolerance, nextNumber, lots, prices, haircuts, quotes, modes, lists, partials, waitingModes, waitingLists, waitingPartials, maps, ages, exposures, accounts, rowsOf, widthOf}
 use Rattle.book.specs.State.{State, put, Fits}
 use Rattle.book.proofs.Images.{put-fits}
 use Rattle.book.proofs.Places.{row-of}
@@ -48,9 +48,9 @@ module _ (r : List ℕ) (legal : areLegal 0 r ≡ true) (accepted : lowest (open
   unfolding opened holding sum
   opening-holds p i = refl
 
-  pub opening-unused : (e : ℕ) → opened r .state useds e ≡ 0
+  pub opening-amount : (e : ℕ) → opened r .state exposures e ≡ 0
   unfolding opened
-  opening-unused e = refl
+  opening-amount e = refl
 
   pub good-opening : Good (opened r .state)
   unfolding opened all kinds
