@@ -1,4 +1,3 @@
-pub mod Accepting
 pub mod Counts
 pub mod Moving
 pub mod Passing

@@ -8,7 +8,6 @@ use native.Mathlib.Omega.{arith}
 use lib.ListN.{length, getD}
 use Rattle.book.specs.Layout.{bookLength, useds}
 use Rattle.book.specs.State.{State, state}
-use Rattle.book.proofs.Images.{state-fits}
 use Rattle.rules.specs.Marking.{onExposures, moved, ineligibleBack, excessBack, shortfallIn}
 use Rattle.facts.proofs.Facts.{facts-sound}
 use Rattle.facts.proofs.Keeps.{Good}
@@ -16,15 +15,12 @@ use Rattle.marking_laws.proofs.Marking.{Kept, kept-pass, kept-ineligible, kept-
 use Rattle.marking_laws.proofs.Moved.{Bonds}
 use Rattle.marking_laws.proofs.Passes.{Local, on-none, on-next, pass-bonds, pass-moved}
 use Rattle.marking_laws.proofs.Recalls.{columns-kept}
-use Rattle.marking.specs.Marks.{Marking, Stepped, bit}
-use Rattle.marking.proofs.Ways.{facts-of}
-
--- the bytes of a sound book make a good state
-pub good-of : {book columns : List ℕ} → Marking book columns → ((i : ℕ) → getD book i 0 < 256) → Good (state book)
-good-of {book} m small = record { facts = facts-of m; fits = state-fits book (m .long) small }
+use Rattle.bonds.specs.Moves.{SoundBook}
+use Rattle.marking.specs.Marks.{Stepped, bit}
+use Rattle.bonds.proofs.Rows.{good-of}
 
 -- a sound book whose bonds alone have moved
-pub marking-kept : {book after columns : List ℕ} → Marking book columns → length after ≡ bookLength → Bonds (state book) (state after) → Good (state after) → Marking after columns
+pub marking-kept : {book after columns : List ℕ} → SoundBook book columns → length after ≡ bookLength → Bonds (state book) (state after) → Good (state after) → SoundBook after columns
 marking-kept {book} {after} m l b g = record { long = l; sound-book = facts-sound (state after) (g .facts); securities = m .securities ∙ sym (columns-kept b) }
 
 -- a step of a pass: what it keeps, and that it touches its own position alone
@@ -61,6 +57,6 @@ module _ {step : State → ℕ → State} {start : List ℕ} where
       pub on-mark : {after : List ℕ} {mark : ℕ} → e < 64 → Stepped step book after e mark → mark ≡ bit (moved (state start) (onExposures step 64 (state start)) e)
       on-mark l s = s .mark-is ∙ rw (s .stepped, o .reached) (ap bit (sym (pass-moved step (p .local) (state start) 64 e l)))
 
-      pub on-marking : {columns : List ℕ} → Marking start columns → ((i : ℕ) → getD start i 0 < 256) → e ≤ 64 → Marking book columns
+      pub on-marking : {columns : List ℕ} → SoundBook start columns → ((i : ℕ) → getD start i 0 < 256) → e ≤ 64 → SoundBook book columns
       on-marking m small l =
           marking-kept m (o .long) (rw (o .reached) (pass-bonds step (p .local) (state start) e)) (rw (o .reached) (kept-pass step (p .keep) (state start) (good-of m small) e l .good))

@@ -21,15 +21,16 @@ use Rattle.bond_laws.proofs.Lots.{pick-pledgeable, free-returnable}
 use Rattle.bonds.specs.Moves.{Pledging, GivingBack}
 use Rattle.marking_laws.proofs.Marking.{ineligible-returnable}
 use Rattle.marking_laws.proofs.Moved.{moved-none}
-use Rattle.marking.specs.Marks.{Marking, Stepped, bit, ineligibleIn}
-use Rattle.marking.proofs.Moving.{gives-back, pledges}
-use Rattle.marking.proofs.Ways.{facts-of}
+use Rattle.bonds.specs.Moves.{SoundBook}
+use Rattle.marking.specs.Marks.{Stepped, bit, ineligibleIn}
+use Rattle.bonds.proofs.Ready.{gives-back, pledges}
+use Rattle.bonds.proofs.Rows.{facts-of}
 
 -- what a step that moved bonds, or none, leaves
 abbrev pub Moved : (State → ℕ → List ℕ → State) → List ℕ → List ℕ → ℕ → List ℕ → ℕ → Type 0
 Moved move before after e nominals r = (state after ≡ move (state before) e nominals) × (r ≡ bit (moved (state before) (state after) e))
 
-module _ {book columns : List ℕ} {e u : ℕ} (m : Marking book columns) (below : e < 64) (q : u ≡ state book useds e) where
+module _ {book columns : List ℕ} {e u : ℕ} (m : SoundBook book columns) (below : e < 64) (q : u ≡ state book useds e) where
   pub unused-step : (step : State → ℕ → State) → (u ≡ 1 → ⊥) → Stepped step book book e 0
   unused-step step n = record { stepped = rw (ne-eqb (state book useds e) 1 (rw q at n)); mark-is = rw (moved-none (state book) e) }
 

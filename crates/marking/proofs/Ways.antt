@@ -4,7 +4,7 @@ use mathlib.Core.Path.{_≡_, refl, sym, _∙_}
 use mathlib.Core.Bool.{Bool, true, false, not}
 use mathlib.Core.List.{List}
 use mathlib.Core.Logic.{⊎-elim}
-use Prim.Native.Nat.{ℕ, _+_, _-_, _≤_, _<_}
+use Prim.Native.Nat.{ℕ, _+_, _-_, _<_}
 use lib.Dec.{eqb}
 use lib.ListN.{getD}
 use borrow.Author.Tests.{eq-eqb, ne-eqb}
@@ -12,16 +12,12 @@ use Rattle.laws.proofs.Cases.{either}
 use Rattle.laws.proofs.Least.{Rest, loop-fails, loop-passes}
 use Rattle.baskets.specs.Basket.{eligible}
 use Rattle.baskets.specs.declared.Basket.{Basket}
-use Rattle.securities.specs.Position.{worth, nominalsOf, Within}
-use Rattle.securities.specs.Security.{AllInBounds, AllQuoted}
-use Rattle.book.specs.Layout.{today, useds, exposureBaskets, exposures}
-use Rattle.book.specs.State.{State, state, columnsOf}
+use Rattle.securities.specs.Position.{worth, nominalsOf}
+use Rattle.book.specs.Layout.{useds, exposures}
+use Rattle.book.specs.State.{State, columnsOf}
 use Rattle.rules.specs.Marking.{missingOf}
-use Rattle.rules.specs.Stock.{basketOf, positionOf, valueOf}
-use Rattle.facts.proofs.Facts.{Sound, sound-facts}
-use Rattle.facts.proofs.Rows.{Exposure, used-exposure}
-use Rattle.facts.proofs.Stock.{columns-bounded, columns-quoted, today-le, age-le, position-within}
-use Rattle.marking.specs.Marks.{Marking, ineligibleIn}
+use Rattle.rules.specs.Stock.{positionOf, valueOf}
+use Rattle.marking.specs.Marks.{ineligibleIn}
 
 -- a search for a nominal that is not 0
 abbrev pub isZero : List ℕ → ℕ → Bool
@@ -44,38 +40,6 @@ module _ (position columns : List ℕ) (basket : Basket) (today i : ℕ) where
 
   pub goes : {b : Bool} → b ≡ eligible basket today columns i → b ≡ false → getD position i 0 ≡ ineligibleIn position columns basket today i
   goes e t = rw (sym e ∙ t)
-
--- what a sound book with its securities is worth to picking and valuation
-module _ {book columns : List ℕ} (m : Marking book columns) where
-  pub facts-of : Sound (state book)
-  facts-of = sound-facts (state book) (m .sound-book)
-
-  pub bounded : AllInBounds columns
-  bounded = rw (m .securities) (columns-bounded (state book) facts-of)
-
-  pub quoted : AllQuoted columns
-  quoted = rw (m .securities) (columns-quoted (state book) facts-of)
-
-  pub today-within : {t : ℕ} → t ≡ state book today 0 → t ≤ 146096
-  today-within e = rw e (today-le (state book) facts-of)
-
-  module _ {e : ℕ} (below : e < 64) where
-    pub row-within : {row : List ℕ} → row ≡ positionOf (state book) e → Within (nominalsOf row)
-    row-within q = rw q (position-within (state book) facts-of e below)
-
-    -- of a used exposure: its basket, its amount
-    module _ {u : ℕ} (q : u ≡ state book useds e) (o : u ≡ 1) where
-      exposure-of : Exposure (state book) e
-      exposure-of = used-exposure (state book) e (facts-of .exposure e below) (sym q ∙ o)
-
-      pub basket-below : state book exposureBaskets e < 16
-      basket-below = exposure-of .basket-below
-
-      pub amount-le : state book exposures e ≤ 10000000000000
-      amount-le = exposure-of .amount
-
-      pub oldest-le : {b : Basket} → b ≡ basketOf (state book) e → b .oldest ≤ 255
-      oldest-le h = rw h (age-le (state book) facts-of (state book exposureBaskets e) basket-below)
 
 -- what the value of an exposure is short of its amount
 pub shortfall-is : (s : State) (e : ℕ) {columns row : List ℕ} {v x n : ℕ} → columns ≡ columnsOf s → row ≡ positionOf s e → v ≡ worth columns (nominalsOf row) → x ≡ s exposures e

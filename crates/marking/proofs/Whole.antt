@@ -15,13 +15,14 @@ use Rattle.totals.specs.declared.Totals.{Totals}
 use Rattle.marking_laws.proofs.Marking.{own-ineligible, own-excess, ineligible-less, excess-less}
 use Rattle.marking_laws.proofs.Moved.{moved-both}
 use Rattle.marking_laws.proofs.Passes.{pass-lower}
-use Rattle.marking.specs.Marks.{Marking, marksOf, marksWith, marksIn, Marked}
+use Rattle.bonds.specs.Moves.{SoundBook}
+use Rattle.marking.specs.Marks.{marksOf, marksWith, marksIn, Marked}
 use Rattle.marking.proofs.Counts.{marks-count, either-count, marks-small}
 use Rattle.marking.proofs.Passing.{Passable, On, on-marking}
 
 -- a book after a whole pass
-pub passed : {step : State → ℕ → State} {book after columns : List ℕ} → Passable step → Marking book columns → ((i : ℕ) → getD book i 0 < 256) → length after ≡ bookLength
-    → state after ≡ onExposures step 64 (state book) → Marking after columns
+pub passed : {step : State → ℕ → State} {book after columns : List ℕ} → Passable step → SoundBook book columns → ((i : ℕ) → getD book i 0 < 256) → length after ≡ bookLength
+    → state after ≡ onExposures step 64 (state book) → SoundBook after columns
 passed {step} {book} {after} p m small l q = let o : On step book after 64 = record { long = l; reached = q } in on-marking o p m small (le-refl 64)
 
 module _ (s : State) {s1 : State} {marks : List ℕ} (p1 : s1 ≡ onExposures ineligibleBack 64 s) (k : marks ≡ marksOf (moved s s1)) where

@@ -1,26 +1,18 @@
 -- What the steps of a mark count on and leave, exposure by exposure.
 -- Assumes nothing.
 use mathlib.Core.Path.{_≡_}
-use mathlib.Core.Bool.{Bool, true, cond}
+use mathlib.Core.Bool.{Bool, cond}
 use mathlib.Core.List.{List}
 use Prim.Native.Nat.{ℕ, _≤_, _<_}
 use lib.Dec.{eqb}
-use lib.ListN.{length, getD}
+use lib.ListN.{getD}
 use Rattle.laws.specs.Filled.{filled}
 use Rattle.laws.specs.Sum.{sum}
 use Rattle.baskets.specs.Basket.{eligible}
 use Rattle.baskets.specs.declared.Basket.{Basket}
-use Rattle.book.specs.Layout.{bookLength}
-use Rattle.book.specs.State.{State, state, columnsOf}
+use Rattle.book.specs.State.{State, state}
 use Rattle.rules.specs.Marking.{moved}
-use Rattle.rules.specs.Sound.{sound}
 use Rattle.marking_laws.specs.Pass.{onUsed}
-
--- a sound book with its securities' columns
-pub record Marking (book columns : List ℕ) : Type 0 where
-  pub long : length book ≡ bookLength
-  pub sound-book : sound (state book) ≡ true
-  pub securities : columns ≡ columnsOf (state book)
 
 -- 1 where a test holds, else 0
 abbrev pub bit : Bool → ℕ

@@ -1,30 +1,13 @@
-// Moves of an exposure's bonds that tell whether there were any, and the basket that its bonds are eligible for.
+// Moves of an exposure's bonds that tell whether there were any.
 ghost use mathlib.Core.Path.{_≡_};
-ghost use Prim.Native.Nat.{_<_};
 ghost use lib.ListN.{length};
-ghost use Rattle.book.specs.Layout.{bookLength, exposureBaskets};
+ghost use Rattle.book.specs.Layout.{bookLength};
 ghost use Rattle.book.specs.State.{state};
 ghost use Rattle.bonds.specs.Moves.{Pledging, GivingBack};
-ghost use Rattle.rules.specs.Stock.{basketOf, pledge, giveBack};
+ghost use Rattle.rules.specs.Stock.{pledge, giveBack};
 ghost use Rattle.rules.specs.Marking.{moved};
 ghost use Rattle.marking_laws.specs.Pass.{isEmpty};
 ghost use Rattle.marking.specs.Marks.{bit};
-use baskets::Basket;
-use book::layout::AGES;
-use book::layout::EXPOSURE_BASKETS;
-use book::layout::MAPS;
-
-// The basket of an exposure.
-pub fn basket_of(book: &[u8], e: usize) -> Basket
-    requires { ⌜ (length (now book) ≡ bookLength) × (e < 64) × (state (now book) exposureBaskets e < 16) ⌝ }
-    ensures { λ r. ⌜ r ≡ basketOf (state (now (book .entry))) e ⌝ }
-{
-    let b = book::get(book, EXPOSURE_BASKETS, e) as usize;
-    Basket {
-        map: book::get(book, MAPS, b),
-        oldest: book::get(book, AGES, b),
-    }
-}
 
 // Are all nominals 0?
 fn is_empty(nominals: &[u64; 64]) -> bool

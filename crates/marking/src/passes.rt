@@ -7,11 +7,11 @@ ghost use Rattle.laws.specs.Filled.{filled};
 ghost use Rattle.laws.specs.Sum.{sum};
 ghost use Rattle.book.specs.Layout.{exposures};
 ghost use Rattle.book.specs.State.{state};
+ghost use Rattle.bonds.specs.Moves.{SoundBook};
 ghost use Rattle.rules.specs.Marking.{onExposures, moved, ineligibleBack, excessBack, shortfallIn, missingOf};
 ghost use Rattle.rules.specs.Stock.{valueOf};
 ghost use Rattle.securities.specs.Security.{AllInBounds, AllQuoted};
-ghost use Rattle.marking.specs.Marks.{Marking, Stepped, Marked, marksOf, marksWith, marksIn, ineligibleIn};
-use super::moves::basket_of;
+ghost use Rattle.marking.specs.Marks.{Stepped, Marked, marksOf, marksWith, marksIn, ineligibleIn};
 use super::moves::give_any_back;
 use super::moves::pledge_any;
 use baskets::Basket;
@@ -58,21 +58,21 @@ fn ineligible(position: &[u64; 64], columns: &[u64; 256], basket: Basket, today:
 
 // First pass, one exposure: gives back what is not eligible; 1 where there was anything.
 fn give_ineligible(book: &mut [u8], columns: &[u64; 256], e: usize) -> u64
-    requires { ⌜ Marking (now book) (now columns) × (e < 64) ⌝ }
+    requires { ⌜ SoundBook (now book) (now columns) × (e < 64) ⌝ }
     ensures { λ r. ⌜ Stepped ineligibleBack (now (book .entry)) (now (book .exit)) e r ⌝ }
 {
     if book::get(book, USEDS, e) != 1 {
         return 0;
     }
     let position = book::row_at(book, POSITIONS, 64 * e);
-    let basket = basket_of(book, e);
+    let basket = bonds::basket_of(book, e);
     let nominals = ineligible(&position, columns, basket, book::get(book, TODAY, 0));
     give_any_back(book, e, &nominals)
 }
 
 // First pass: a mark for each exposure that gave back.
 pub fn give_all_ineligible(book: &mut [u8], columns: &[u64; 256]) -> [u64; 64]
-    requires { ⌜ Marking (now book) (now columns) ⌝ }
+    requires { ⌜ SoundBook (now book) (now columns) ⌝ }
     ensures { λ r. ⌜ (state (now (book .exit)) ≡ onExposures ineligibleBack 64 (state (now (book .entry)))) × (r ≡ marksOf (moved (state (now (book .entry))) (state (now (book .exit))))) ⌝ }
 {
     let mut marks = [0u64; 64];
@@ -86,7 +86,7 @@ pub fn give_all_ineligible(book: &mut [u8], columns: &[u64; 256]) -> [u64; 64]
 
 // Second pass, one exposure: frees its position down to its amount; 1 where there was anything to free.
 fn free_excess(book: &mut [u8], columns: &[u64; 256], e: usize) -> u64
-    requires { ⌜ Marking (now book) (now columns) × (e < 64) ⌝ }
+    requires { ⌜ SoundBook (now book) (now columns) × (e < 64) ⌝ }
     ensures { λ r. ⌜ Stepped excessBack (now (book .entry)) (now (book .exit)) e r ⌝ }
 {
     if book::get(book, USEDS, e) != 1 {
@@ -107,7 +107,7 @@ fn either_mark(first: u64, second: u64) -> u64
 
 // Second pass: how many exposures gave back, in the first pass or in this one.
 pub fn free_all(book: &mut [u8], columns: &[u64; 256], marks: &[u64; 64]) -> u64
-    requires { ⌜ Marking (now book) (now columns) × Marked (now marks) ⌝ }
+    requires { ⌜ SoundBook (now book) (now columns) × Marked (now marks) ⌝ }
     ensures { λ r. ⌜ (state (now (book .exit)) ≡ onExposures excessBack 64 (state (now (book .entry)))) × (r ≡ marksWith (now (marks .entry)) (moved (state (now (book .entry))) (state (now (book .exit))))) ⌝ }
 {
     let mut count: u64 = 0;
@@ -119,30 +119,19 @@ pub fn free_all(book: &mut [u8], columns: &[u64; 256], marks: &[u64; 64]) -> u64
     count
 }
 
-// What a value is short of an exposure's amount.
-pub fn missing_from(exposure: u64, value: u64) -> u64
-    ensures { λ r. ⌜ r ≡ exposure - value ⌝ }
-{
-    if value < exposure {
-        exposure - value
-    } else {
-        0
-    }
-}
-
 // What the value of an exposure's position is short of its amount.
 fn shortfall(book: &[u8], columns: &[u64; 256], e: usize) -> u64
-    requires { ⌜ Marking (now book) (now columns) × (e < 64) ⌝ }
+    requires { ⌜ SoundBook (now book) (now columns) × (e < 64) ⌝ }
     ensures { λ r. ⌜ r ≡ state (now (book .entry)) exposures e - valueOf (state (now (book .entry))) e ⌝ }
 {
     let position = book::row_at(book, POSITIONS, 64 * e);
     let value = securities::worth_of(&position, columns);
-    missing_from(book::get(book, EXPOSURES, e), value)
+    bonds::missing_from(book::get(book, EXPOSURES, e), value)
 }
 
 // Third pass, one exposure: picks what is missing; 1 where anything was found.
 fn search_missing(book: &mut [u8], columns: &[u64; 256], e: usize) -> u64
-    requires { ⌜ Marking (now book) (now columns) × (e < 64) ⌝ }
+    requires { ⌜ SoundBook (now book) (now columns) × (e < 64) ⌝ }
     ensures { λ r. ⌜ Stepped shortfallIn (now (book .entry)) (now (book .exit)) e r ⌝ }
 {
     if book::get(book, USEDS, e) != 1 {
@@ -159,7 +148,7 @@ fn search_missing(book: &mut [u8], columns: &[u64; 256], e: usize) -> u64
 
 // Third pass: how many exposures took in.
 pub fn search_all(book: &mut [u8], columns: &[u64; 256]) -> u64
-    requires { ⌜ Marking (now book) (now columns) ⌝ }
+    requires { ⌜ SoundBook (now book) (now columns) ⌝ }
     ensures { λ r. ⌜ (state (now (book .exit)) ≡ onExposures shortfallIn 64 (state (now (book .entry)))) × (r ≡ marksIn (moved (state (now (book .entry))) (state (now (book .exit))))) ⌝ }
 {
     let mut count: u64 = 0;
@@ -173,7 +162,7 @@ pub fn search_all(book: &mut [u8], columns: &[u64; 256]) -> u64
 
 // What is missing of an exposure, nothing where it is not used.
 fn missing_of(book: &[u8], columns: &[u64; 256], e: usize) -> u64
-    requires { ⌜ Marking (now book) (now columns) × (e < 64) ⌝ }
+    requires { ⌜ SoundBook (now book) (now columns) × (e < 64) ⌝ }
     ensures { λ r. ⌜ (r ≡ missingOf (state (now (book .entry))) e) × (r ≤ 10000000000000) ⌝ }
 {
     if book::get(book, USEDS, e) == 1 {
@@ -185,7 +174,7 @@ fn missing_of(book: &[u8], columns: &[u64; 256], e: usize) -> u64
 
 // What is missing of all exposures.
 pub fn missing_in_all(book: &[u8], columns: &[u64; 256]) -> u64
-    requires { ⌜ Marking (now book) (now columns) ⌝ }
+    requires { ⌜ SoundBook (now book) (now columns) ⌝ }
     ensures { λ r. ⌜ r ≡ sum (missingOf (state (now (book .entry)))) 64 ⌝ }
 {
     let mut missing: u64 = 0;

@@ -2,7 +2,7 @@
 -- Assumes nothing.
 use mathlib.Core.Path.{_∙_}
 use Rattle.book.specs.State.{state}
-use Rattle.marking.specs.Marks.{Marking}
+use Rattle.bonds.specs.Moves.{SoundBook}
 use Rattle.marking.proofs.Passing.{first-pass, second-pass, third-pass}
 use Rattle.marking.proofs.Whole.{passed, marks-in, mark-whole}
 use borrow.Author.Needs.{needs}
@@ -16,19 +16,19 @@ give-all-ineligible-requires : tie.Need-give-all-ineligible-requires
 give-all-ineligible-requires c κs = search needs
 
 -- the book after each pass
-after-first : (c : tie.After-slice-known2) → Marking (c .before .before .give-all-ineligible .last .0) (c .before .before .before .before .before .columns .result)
+after-first : (c : tie.After-slice-known2) → SoundBook (c .before .before .give-all-ineligible .last .0) (c .before .before .before .before .before .columns .result)
 after-first c =
     let g = c .before .before in
     let s = g .before .before .before .before .before .before in
-    let m : Marking (s .args .book .now) (g .before .before .before .columns .result) = record { long = s .pre .0; sound-book = s .pre .1; securities = g .before .before .before .columns .ensures } in
+    let m : SoundBook (s .args .book .now) (g .before .before .before .columns .result) = record { long = s .pre .0; sound-book = s .pre .1; securities = g .before .before .before .columns .ensures } in
     passed first-pass m (λ i. g .before .before .before .before .before .slice-known .given i .fits) (search needs) (g .give-all-ineligible .ensures .0)
 
-after-second : (c : tie.After-slice-known3) → Marking (c .before .before .free-all .last .0) (c .before .before .before .before .before .before .before .before .before .before .before .columns .result)
+after-second : (c : tie.After-slice-known3) → SoundBook (c .before .before .free-all .last .0) (c .before .before .before .before .before .before .before .before .before .before .before .columns .result)
 after-second c =
     let f = c .before .before in
     passed second-pass (after-first (f .before .before .before .before)) (λ i. f .before .before .before .before .slice-known2 .given i .fits) (search needs) (f .free-all .ensures .0)
 
-after-third : (c : tie.After-slice-known4) → Marking (c .before .before .search-all .last .0) (c .before .before .before .before .before .before .before .before .before .before .before .before .before .before .before .before .columns .result)
+after-third : (c : tie.After-slice-known4) → SoundBook (c .before .before .search-all .last .0) (c .before .before .before .before .before .before .before .before .before .before .before .before .before .before .before .before .columns .result)
 after-third c =
     let f = c .before .before in
     let m = after-second (f .before .before .before) in

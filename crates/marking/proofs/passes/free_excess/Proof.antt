@@ -2,7 +2,7 @@
 -- Assumes nothing.
 use Rattle.rules.specs.Marking.{excessBack}
 use Rattle.marking.proofs.Steps.{unused-step, excess-gives, excess-step}
-use Rattle.marking.proofs.Ways.{bounded, row-within}
+use Rattle.bonds.proofs.Rows.{bounded, row-within}
 use borrow.Author.Needs.{needs}
 use Rattle.marking.proofs.passes.free_excess.Statement.{statement}
 use Rattle.marking.proofs.passes.free_excess.Tie as tie

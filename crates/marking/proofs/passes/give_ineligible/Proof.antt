@@ -2,7 +2,7 @@
 -- Assumes nothing.
 use Rattle.rules.specs.Marking.{ineligibleBack}
 use Rattle.marking.proofs.Steps.{unused-step, ineligible-gives, ineligible-step}
-use Rattle.marking.proofs.Ways.{bounded, quoted, today-within, basket-below, oldest-le}
+use Rattle.bonds.proofs.Rows.{bounded, quoted, today-within, basket-below, oldest-le}
 use borrow.Author.Needs.{needs}
 use Rattle.marking.proofs.passes.give_ineligible.Statement.{statement}
 use Rattle.marking.proofs.passes.give_ineligible.Tie as tie

@@ -1,7 +1,8 @@
 -- `marking::passes::missing_of` meets its contract.
 -- Assumes nothing.
 use native.Mathlib.Omega.{arith}
-use Rattle.marking.proofs.Ways.{amount-le, missing-used, missing-unused}
+use Rattle.bonds.proofs.Rows.{amount-le}
+use Rattle.marking.proofs.Ways.{missing-used, missing-unused}
 use borrow.Author.Needs.{needs}
 use Rattle.marking.proofs.passes.missing_of.Statement.{statement}
 use Rattle.marking.proofs.passes.missing_of.Tie as tie

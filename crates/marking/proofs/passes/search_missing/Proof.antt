@@ -3,7 +3,7 @@
 use mathlib.Core.Path.{sym, _∙_}
 use Rattle.bonds.proofs.Ready.{good-pickable}
 use Rattle.rules.specs.Marking.{shortfallIn}
-use Rattle.marking.proofs.Passing.{good-of}
+use Rattle.bonds.proofs.Rows.{good-of}
 use Rattle.marking.proofs.Steps.{unused-step, covered-step, found-pledges, missing-step}
 use borrow.Author.Needs.{needs}
 use Rattle.marking.proofs.passes.search_missing.Statement.{statement}

@@ -1,7 +1,8 @@
 -- `marking::passes::shortfall` meets its contract.
 -- Assumes nothing.
 use Rattle.book.specs.State.{state}
-use Rattle.marking.proofs.Ways.{bounded, row-within, shortfall-is}
+use Rattle.bonds.proofs.Rows.{bounded, row-within}
+use Rattle.marking.proofs.Ways.{shortfall-is}
 use borrow.Author.Needs.{needs}
 use Rattle.marking.proofs.passes.shortfall.Statement.{statement}
 use Rattle.marking.proofs.passes.shortfall.Tie as tie
