@@ -135,7 +135,7 @@ module _ (s : State) where
     kept-searched = kept-then kept-givenBack (kept-pass shortfallIn kept-shortfall (givenBack s) (kept-givenBack .good) 64 (le-refl 64))
 
 -- amounts stay where bonds alone move
-amounts-kept : {s t : State} → Bonds s t → (e : ℕ) → (t useds e ≡ s useds e) × (t exposures e ≡ s exposures e)
+pub amounts-kept : {s t : State} → Bonds s t → (e : ℕ) → (t useds e ≡ s useds e) × (t exposures e ≡ s exposures e)
 amounts-kept b e = (b .others useds e (λ q. omega arith) (λ q. omega arith), b .others exposures e (λ q. omega arith) (λ q. omega arith))
 
 pub keeps-mark : (s : State) → Good s → Keeps s (marked s)
