@@ -2,17 +2,19 @@
 -- Assumes nothing.
 use mathlib.Core.Path.{_≡_}
 use mathlib.Core.Bool.{Bool}
+use mathlib.Core.List.{List}
 use Prim.Native.Nat.{ℕ, zero, suc, _+_, _*_, _/_, _%_, _<_}
 use native.Mathlib.Nat.{le-refl}
 use native.Mathlib.Omega.{arith}
 use Rattle.book.specs.Layout.{lots, prices, haircuts, quotes, useds, exposureGivers, positions}
 use Rattle.book.specs.State.{State, columnsOf, Lowerable}
 use Rattle.rules.specs.Stock.{positionOf, pickFor, freeFor}
+use Rattle.facts.proofs.Facts.{Sound}
 use Rattle.facts.proofs.Filled.{filled-same}
 use Rattle.facts.proofs.Keeps.{Good}
 use Rattle.facts.proofs.Rows.{used-exposure}
 use Rattle.facts.proofs.Stock.{columns-bounded, columns-quoted, today-le, age-le, account-within, position-within, position-at}
-use Rattle.bond_laws.proofs.Lots.{pick-pledgeable, free-returnable, pledge-lowerable, giveBack-lowerable}
+use Rattle.bond_laws.proofs.Lots.{Pledgeable, Returnable, pick-pledgeable, free-returnable, pledge-lowerable, giveBack-lowerable}
 use Rattle.bond_laws.proofs.Moving.{pledge-raisable, giveBack-raisable}
 use Rattle.bonds.specs.Moves.{Pledging, GivingBack, Pickable, Freeable}
 
@@ -27,6 +29,21 @@ module _ (s t : State) (lot : (i : ℕ) → t lots i ≡ s lots i) (price : (i :
 
   pub columns-same : columnsOf t ≡ columnsOf s
   columns-same = filled-same (λ k. t (lots + k / 64) (k % 64)) (λ k. s (lots + k / 64) (k % 64)) 256 256 (λ k l. each (k / 64) (k % 64) (omega arith))
+
+-- bonds of a used exposure may move, where they are within the row that they leave
+module _ (s : State) (e : ℕ) (by : List ℕ) (f : Sound s) (below : e < 64) (u : s useds e ≡ 1) where
+  giver-of : s exposureGivers e < 32
+  giver-of = used-exposure s e (f .exposure e below) u .parties .giver-below
+
+  pub gives-back : Returnable s e by → GivingBack s e by
+  gives-back r =
+      let enough = giveBack-lowerable r in
+      record { below = below; giver = giver-of; enough = enough; room = giveBack-raisable s e by below u giver-of (f .held) enough }
+
+  pub pledges : Pledgeable s e by → Pledging s e by
+  pledges p =
+      let enough = pledge-lowerable p in
+      record { below = below; giver = giver-of; enough = enough; room = pledge-raisable s e by below u giver-of (f .held) enough }
 
 module _ (s : State) (e : ℕ) where
   -- what Free gives back may move
@@ -57,10 +74,7 @@ module _ (s : State) (e : ℕ) where
         }
 
     pub pick-pledges : (test : ℕ → Bool) (amount : ℕ) → Pledging s e (pickFor s e test amount .nominals)
-    pick-pledges test amount =
-        let giver = used-exposure s e (g .facts .exposure e l) u .parties .giver-below in
-        let enough = pledge-lowerable (pick-pledgeable s e test amount) in
-        record { below = l; giver = giver; enough = enough; room = pledge-raisable s e _ l u giver (g .facts .held) enough }
+    pick-pledges test amount = pledges s e _ (g .facts) l u (pick-pledgeable s e test amount)
 
     pub good-freeable : Freeable s e
     good-freeable =

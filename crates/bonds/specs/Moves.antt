@@ -1,12 +1,22 @@
 -- What the moves of bonds count on.
 -- Assumes nothing.
+use mathlib.Core.Path.{_≡_}
+use mathlib.Core.Bool.{true}
 use mathlib.Core.List.{List}
 use Prim.Native.Nat.{ℕ, _+_, _*_, _≤_, _<_}
-use Rattle.book.specs.Layout.{today, ages, exposureGivers, exposureBaskets, accounts, positions}
-use Rattle.book.specs.State.{State, columnsOf, lowered, Raisable, Lowerable}
+use lib.ListN.{length}
+use Rattle.book.specs.Layout.{bookLength, today, ages, exposureGivers, exposureBaskets, accounts, positions}
+use Rattle.book.specs.State.{State, state, columnsOf, lowered, Raisable, Lowerable}
+use Rattle.rules.specs.Sound.{sound}
 use Rattle.rules.specs.Stock.{accountOf, positionOf}
 use Rattle.securities.specs.Position.{Within, nominalsOf}
 use Rattle.securities.specs.Security.{AllInBounds, AllQuoted}
+
+-- a sound book with its securities' columns
+pub record SoundBook (book columns : List ℕ) : Type 0 where
+  pub long : length book ≡ bookLength
+  pub sound-book : sound (state book) ≡ true
+  pub securities : columns ≡ columnsOf (state book)
 
 -- bonds may go from the account of an exposure's giver into its position, and back
 pub record Pledging (s : State) (e : ℕ) (by : List ℕ) : Type 0 where

@@ -1,7 +1,8 @@
 // Bonds on the book: moves between a giver's account and an exposure's position, and Pick and Free for an exposure.
 ghost use mathlib.Core.Path.{_≡_};
+ghost use Prim.Native.Nat.{_<_, _-_};
 ghost use lib.ListN.{length};
-ghost use Rattle.book.specs.Layout.{bookLength};
+ghost use Rattle.book.specs.Layout.{bookLength, exposureBaskets};
 ghost use Rattle.book.specs.State.{state, columnsOf};
 ghost use Rattle.rules.specs.Stock.{basketOf, pledge, giveBack, eligibleFor, pickFor, freeFor};
 ghost use Rattle.bonds.specs.Moves.{Pledging, GivingBack, Pickable, Freeable};
@@ -36,8 +37,8 @@ pub fn give_back(book: &mut [u8], e: usize, nominals: &[u64; 64])
 }
 
 // The map and greatest age of an exposure's basket.
-fn basket_of(book: &[u8], e: usize) -> Basket
-    requires { ⌜ (length (now book) ≡ bookLength) × Pickable (state (now book)) e ⌝ }
+pub fn basket_of(book: &[u8], e: usize) -> Basket
+    requires { ⌜ (length (now book) ≡ bookLength) × (e < 64) × (state (now book) exposureBaskets e < 16) ⌝ }
     ensures { λ r. ⌜ r ≡ basketOf (state (now (book .entry))) e ⌝ }
 {
     let b = book::get(book, EXPOSURE_BASKETS, e) as usize;
@@ -67,4 +68,15 @@ pub fn free_down(book: &mut [u8], columns: &[u64; 256], e: usize, amount: u64)
     let freed = picking::free(&position, columns, amount);
     let nominals = freed.nominals;
     give_back(book, e, &nominals);
+}
+
+// What a value is short of an exposure's amount.
+pub fn missing_from(exposure: u64, value: u64) -> u64
+    ensures { λ r. ⌜ r ≡ exposure - value ⌝ }
+{
+    if value < exposure {
+        exposure - value
+    } else {
+        0
+    }
 }

@@ -22,7 +22,7 @@ fn code_of(book: &[u8], kind: u64, fields: &[u64; 8]) -> u64
         6 => requests::fop_code(book, fields),
         7 => requests::return_code(book, fields),
         8 => requests::cancel_code(book, fields),
-        11 => marking::recall_code(book, fields),
+        11 => recalls::recall_code(book, fields),
         12 => day_change::next_day_code(book),
         _ => 0,
     }
@@ -58,7 +58,7 @@ fn take_step(book: &mut [u8], kind: u64, fields: &[u64; 8]) -> Totals
         8 => requests::cancel(book, fields),
         9 => settlement::settle(book),
         10 => marking::mark(book),
-        11 => marking::recall(book, fields),
+        11 => recalls::recall(book, fields),
         _ => day_change::next_day(book),
     }
 }

@@ -1,4 +1,4 @@
--- Marks of exposures, and how they count.
+-- Flags of exposures, and how they count.
 -- Assumes nothing.
 use mathlib.Core.Path.{_≡_, refl, sym, ap, _∙_}
 use mathlib.Core.Bool.{Bool, true, false, _||_, cond}
@@ -15,7 +15,8 @@ use Rattle.laws.proofs.Cases.{either}
 use Rattle.laws.proofs.Filled.{filled-at}
 use Rattle.laws.proofs.Least.{count-hit, count-miss, count-none}
 use Rattle.laws.proofs.Sum.{sum-next, sum-same}
-use Rattle.marking.specs.Marks.{bit, marksOf, orMark, marksWith, marksIn, Marked}
+use Rattle.mark_steps.specs.Stepped.{bit}
+use Rattle.marking.specs.Flags.{flagsOf, orFlag, countWith, countOf, Flags}
 
 -- a sum on the way: none yet, and one number more
 pub sum-none : (f : ℕ → ℕ) → 0 ≡ sum f 0
@@ -25,7 +26,7 @@ sum-none f = refl
 pub sum-more : (f : ℕ → ℕ) (e : ℕ) {n x : ℕ} → n ≡ sum f e → x ≡ f e → n + x ≡ sum f (e + 1)
 sum-more f e h q = rw (sum-next f e, h, q)
 
--- the mark of before, or the new one
+-- the flag of before, or the new one
 pub first-none : (first second : ℕ) → first ≡ 0 → second ≡ cond (eqb first 0) second first
 first-none first second z = rw (eq-eqb first 0 z)
 
@@ -36,18 +37,18 @@ pub bit-le : (b : Bool) → bit b ≤ 1
 bit-le true = le-refl 1
 bit-le false = omega arith
 
-pub or-le : (mark : ℕ) (b : Bool) → mark ≤ 1 → orMark mark b ≤ 1
-or-le mark b h = ⊎-elim (λ e. rw e (bit-le b)) (λ e. rw e h) (either (eqb mark 0))
+pub or-le : (flag : ℕ) (b : Bool) → flag ≤ 1 → orFlag flag b ≤ 1
+or-le flag b h = ⊎-elim (λ e. rw e (bit-le b)) (λ e. rw e h) (either (eqb flag 0))
 
--- a mark joined with a new one
-pub or-mark : (first : ℕ) (b : Bool) {second mark : ℕ} → mark ≡ cond (eqb first 0) second first → second ≡ bit b → mark ≡ orMark first b
-or-mark first b h q = rw q at h
+-- a flag joined with a new one
+pub or-flag : (first : ℕ) (b : Bool) {second flag : ℕ} → flag ≡ cond (eqb first 0) second first → second ≡ bit b → flag ≡ orFlag first b
+or-flag first b h q = rw q at h
 
-pub marks-small : (test : ℕ → Bool) → Marked (marksOf test)
-marks-small test = record { small = λ e l. rw (filled-at (λ e. bit (test e)) 64 64 e (le-refl 64) l) (bit-le (test e)) }
+pub flags-small : (test : ℕ → Bool) → Flags (flagsOf test)
+flags-small test = record { small = λ e l. rw (filled-at (λ e. bit (test e)) 64 64 e (le-refl 64) l) (bit-le (test e)) }
 
--- a mark for one test, joined with another test, is that of either
-or-bits : (a b : Bool) → orMark (bit a) b ≡ bit (a || b)
+-- a flag for one test, joined with another test, is that of either
+or-bits : (a b : Bool) → orFlag (bit a) b ≡ bit (a || b)
 or-bits true b = refl
 or-bits false b = refl
 
@@ -72,11 +73,11 @@ unfolding sum
 sum-count test zero = sym (count-none test 0)
 sum-count test (suc n) = rw (sum-count test n) (sym (count-last test n 0 ∙ rw (zero-add n)))
 
-pub marks-count : (test : ℕ → Bool) → marksIn test ≡ count test 64 0
-marks-count test = sum-count test 64
+pub flags-count : (test : ℕ → Bool) → countOf test ≡ count test 64 0
+flags-count test = sum-count test 64
 
-pub either-count : (first second both : ℕ → Bool) → ((e : ℕ) → e < 64 → both e ≡ (first e || second e)) → marksWith (marksOf first) second ≡ count both 64 0
+pub either-count : (first second both : ℕ → Bool) → ((e : ℕ) → e < 64 → both e ≡ (first e || second e)) → countWith (flagsOf first) second ≡ count both 64 0
 either-count first second both h =
-    sum-same (λ e. orMark (getD (marksOf first) e 0) (second e)) (λ e. bit (both e)) 64
+    sum-same (λ e. orFlag (getD (flagsOf first) e 0) (second e)) (λ e. bit (both e)) 64
     (λ e l. rw (filled-at (λ e. bit (first e)) 64 64 e (le-refl 64) l, h e l) (or-bits (first e) (second e)))
-    ∙ marks-count both
+    ∙ flags-count both

@@ -1,7 +1,3 @@
-pub mod Accepting
 pub mod Counts
-pub mod Moving
 pub mod Passing
-pub mod Steps
-pub mod Ways
 pub mod Whole

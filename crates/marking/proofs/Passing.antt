@@ -1,66 +1,80 @@
--- A loop over the exposures: the book on the way is the pass so far, sound and with the same securities, and each mark tells what the
--- whole pass does to its exposure.
+-- A loop over the exposures: the book on the way is the pass so far, sound and with the same securities, and what a step tells of its
+-- exposure is what the whole pass does to it.
 -- Assumes nothing.
-use mathlib.Core.Path.{_≡_, sym, ap, _∙_}
+use mathlib.Core.Path.{_≡_, refl, sym, ap, _∙_}
+use mathlib.Core.Bool.{cond}
 use mathlib.Core.List.{List}
-use Prim.Native.Nat.{ℕ, _+_, _≤_, _<_}
+use mathlib.Core.Logic.{⊎-elim}
+use Prim.Native.Nat.{ℕ, _+_, _*_, _-_, _≤_, _<_}
+use native.Mathlib.Nat.{le-refl}
 use native.Mathlib.Omega.{arith}
-use lib.ListN.{length, getD}
-use Rattle.book.specs.Layout.{bookLength, useds}
-use Rattle.book.specs.State.{State, state}
-use Rattle.book.proofs.Images.{state-fits}
-use Rattle.rules.specs.Marking.{onExposures, moved, ineligibleBack, excessBack, shortfallIn}
-use Rattle.facts.proofs.Facts.{facts-sound}
-use Rattle.facts.proofs.Keeps.{Good}
-use Rattle.marking_laws.proofs.Marking.{Kept, kept-pass, kept-ineligible, kept-excess, kept-shortfall, own-ineligible, own-excess, own-shortfall}
-use Rattle.marking_laws.proofs.Moved.{Bonds}
-use Rattle.marking_laws.proofs.Passes.{Local, on-none, on-next, pass-bonds, pass-moved}
+use lib.Dec.{eqb}
+use borrow.Author.Tests.{eqb-true}
+use Rattle.laws.proofs.Cases.{either}
+use Rattle.securities.specs.Position.{worth, nominalsOf}
+use Rattle.book.specs.Layout.{useds, exposures, positions}
+use Rattle.book.specs.State.{State, state, columnsOf}
+use Rattle.bonds.specs.Moves.{SoundBook}
+use Rattle.bonds.proofs.Rows.{amount-le}
+use Rattle.facts.proofs.Filled.{filled-same}
+use Rattle.rules.specs.Marking.{onExposures, moved, missingOf}
+use Rattle.rules.specs.Stock.{positionOf, valueOf}
+use Rattle.marking_laws.specs.Pass.{onUsed}
+use Rattle.marking_laws.proofs.Marking.{amounts-kept}
+use Rattle.marking_laws.proofs.Moved.{Bonds, bonds-then, Alike}
+use Rattle.marking_laws.proofs.Passes.{on-none, on-next, own-used, pass-bonds, pass-later, pass-row, pass-moved}
 use Rattle.marking_laws.proofs.Recalls.{columns-kept}
-use Rattle.marking.specs.Marks.{Marking, Stepped, bit}
-use Rattle.marking.proofs.Ways.{facts-of}
+use Rattle.mark_steps.specs.Stepped.{Stepped, bit}
+use Rattle.mark_steps.proofs.Passable.{Passable}
 
--- the bytes of a sound book make a good state
-pub good-of : {book columns : List ℕ} → Marking book columns → ((i : ℕ) → getD book i 0 < 256) → Good (state book)
-good-of {book} m small = record { facts = facts-of m; fits = state-fits book (m .long) small }
+-- positions alike, as much missing
+missing-same : {s t : State} (e : ℕ) → Bonds s t → Alike t s e → missingOf t e ≡ missingOf s e
+missing-same {s} {t} e b a =
+    let k = amounts-kept b e in
+    let row : positionOf t e ≡ positionOf s e = filled-same (λ i. t positions (64 * e + i)) (λ i. s positions (64 * e + i)) 64 64 a in
+    let value : valueOf t e ≡ valueOf s e = ap (λ (c : List ℕ). worth c (nominalsOf (positionOf t e))) (columns-kept b) ∙ ap (λ (r : List ℕ). worth (columnsOf s) (nominalsOf r)) row in
+    ap (λ (u : ℕ). cond (eqb u 1) (t exposures e - valueOf t e) 0) (k .0)
+    ∙ ap (λ (x : ℕ). cond (eqb (s useds e) 1) (x - valueOf t e) 0) (k .1)
+    ∙ ap (λ (v : ℕ). cond (eqb (s useds e) 1) (s exposures e - v) 0) value
 
--- a sound book whose bonds alone have moved
-pub marking-kept : {book after columns : List ℕ} → Marking book columns → length after ≡ bookLength → Bonds (state book) (state after) → Good (state after) → Marking after columns
-marking-kept {book} {after} m l b g = record { long = l; sound-book = facts-sound (state after) (g .facts); securities = m .securities ∙ sym (columns-kept b) }
+bonds-between : {s t u : State} → Bonds s t → Bonds s u → Bonds t u
+bonds-between b c = record { others = λ g j a p. c .others g j a p ∙ sym (b .others g j a p) }
 
--- a step of a pass: what it keeps, and that it touches its own position alone
-pub record Passable (step : State → ℕ → State) : Type 0 where
-  pub local : Local step
-  pub keep : (t : State) (e : ℕ) → Good t → e < 64 → t useds e ≡ 1 → Kept t (step t e)
-
-pub first-pass : Passable ineligibleBack
-first-pass = record { local = own-ineligible; keep = kept-ineligible }
-
-pub second-pass : Passable excessBack
-second-pass = record { local = own-excess; keep = kept-excess }
-
-pub third-pass : Passable shortfallIn
-third-pass = record { local = own-shortfall; keep = kept-shortfall }
+-- no more than an amount is missing
+pub missing-le : {book columns : List ℕ} {e : ℕ} → SoundBook book columns → e < 64 → missingOf (state book) e ≤ 10000000000000
+missing-le {book} {columns} {e} m below =
+    ⊎-elim
+    (λ t. let a = amount-le m below refl (eqb-true (state book useds e) 1 t) in rw t (omega arith))
+    (λ f. rw f (omega arith))
+    (either (eqb (state book useds e) 1))
 
 -- the book after the exposures below e
-pub record On (step : State → ℕ → State) (start book : List ℕ) (e : ℕ) : Type 0 where
-  pub long : length book ≡ bookLength
+pub record On (step : State → ℕ → State) (columns start book : List ℕ) (e : ℕ) : Type 0 where
+  pub whole : SoundBook book columns
   pub reached : state book ≡ onExposures step e (state start)
 
-module _ {step : State → ℕ → State} {start : List ℕ} where
-  pub on-start : length start ≡ bookLength → On step start start 0
-  on-start l = record { long = l; reached = sym (on-none step (state start)) }
+module _ {step : State → ℕ → State} {columns start : List ℕ} where
+  pub on-start : SoundBook start columns → On step columns start start 0
+  on-start m = record { whole = m; reached = sym (on-none step (state start)) }
 
-  module _ {book : List ℕ} {e : ℕ} (o : On step start book e) where
-    pub on-step : {after : List ℕ} {mark : ℕ} → length after ≡ bookLength → Stepped step book after e mark → On step start after (e + 1)
-    on-step l s = record { long = l; reached = s .stepped ∙ rw (o .reached) (sym (on-next step e (state start))) }
+  module _ {book : List ℕ} {e : ℕ} (o : On step columns start book e) where
+    pub on-step : {after : List ℕ} {flag : ℕ} → Stepped step columns book after e flag → On step columns start after (e + 1)
+    on-step t = record { whole = t .book; reached = t .stepped ∙ rw (o .reached) (sym (on-next step e (state start))) }
 
     pub on-end : e ≤ 64 → 64 ≤ e → state book ≡ onExposures step 64 (state start)
     on-end l h = let q : e ≡ 64 = omega arith in rw q at (o .reached)
 
     module _ (p : Passable step) where
-      pub on-mark : {after : List ℕ} {mark : ℕ} → e < 64 → Stepped step book after e mark → mark ≡ bit (moved (state start) (onExposures step 64 (state start)) e)
-      on-mark l s = s .mark-is ∙ rw (s .stepped, o .reached) (ap bit (sym (pass-moved step (p .local) (state start) 64 e l)))
+      -- nothing is missing that was not before the pass
+      pub on-before : missingOf (state start) e ≡ missingOf (state book) e
+      on-before = rw (o .reached) (sym (missing-same e (pass-bonds step (p .local) (state start) e) (pass-later step (p .local) (state start) e e (le-refl e))))
 
-      pub on-marking : {columns : List ℕ} → Marking start columns → ((i : ℕ) → getD start i 0 < 256) → e ≤ 64 → Marking book columns
-      on-marking m small l =
-          marking-kept m (o .long) (rw (o .reached) (pass-bonds step (p .local) (state start) e)) (rw (o .reached) (kept-pass step (p .keep) (state start) (good-of m small) e l .good))
+      module _ {after : List ℕ} {flag : ℕ} (l : e < 64) (t : Stepped step columns book after e flag) where
+        pub on-flag : flag ≡ bit (moved (state start) (onExposures step 64 (state start)) e)
+        on-flag = t .flag-is ∙ rw (t .stepped, o .reached) (ap bit (sym (pass-moved step (p .local) (state start) 64 e l)))
+
+        pub on-missing : {x : ℕ} → x ≡ missingOf (state after) e → x ≡ missingOf (onExposures step 64 (state start)) e
+        on-missing h =
+            let s = state start in
+            let b = bonds-then (pass-bonds step (p .local) s e) (own-used step (p .local) (onExposures step e s) e .bonds) in
+            h ∙ rw (t .stepped, o .reached) (sym (missing-same e (bonds-between b (pass-bonds step (p .local) s 64)) (pass-row step (p .local) s 64 e l)))

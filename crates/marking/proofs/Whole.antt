@@ -2,31 +2,22 @@
 -- Assumes nothing.
 use mathlib.Core.Path.{_≡_, _∙_}
 use mathlib.Core.List.{List}
-use Prim.Native.Nat.{ℕ, _<_}
-use native.Mathlib.Nat.{le-refl}
-use lib.ListN.{length, getD}
+use Prim.Native.Nat.{ℕ}
 use Rattle.laws.specs.Search.{count}
 use Rattle.laws.specs.Sum.{sum}
-use Rattle.book.specs.Layout.{bookLength}
-use Rattle.book.specs.State.{State, state}
+use Rattle.book.specs.State.{State}
 use Rattle.rules.specs.Marking.{onExposures, moved, ineligibleBack, excessBack, shortfallIn, givenBack, searched, missingOf, marked}
 use Rattle.totals.specs.Totals.{totalsOf}
 use Rattle.totals.specs.declared.Totals.{Totals}
 use Rattle.marking_laws.proofs.Marking.{own-ineligible, own-excess, ineligible-less, excess-less}
 use Rattle.marking_laws.proofs.Moved.{moved-both}
 use Rattle.marking_laws.proofs.Passes.{pass-lower}
-use Rattle.marking.specs.Marks.{Marking, marksOf, marksWith, marksIn, Marked}
-use Rattle.marking.proofs.Counts.{marks-count, either-count, marks-small}
-use Rattle.marking.proofs.Passing.{Passable, On, on-marking}
+use Rattle.marking.specs.Flags.{flagsOf, countWith, countOf, Flags}
+use Rattle.marking.proofs.Counts.{flags-count, either-count, flags-small}
 
--- a book after a whole pass
-pub passed : {step : State → ℕ → State} {book after columns : List ℕ} → Passable step → Marking book columns → ((i : ℕ) → getD book i 0 < 256) → length after ≡ bookLength
-    → state after ≡ onExposures step 64 (state book) → Marking after columns
-passed {step} {book} {after} p m small l q = let o : On step book after 64 = record { long = l; reached = q } in on-marking o p m small (le-refl 64)
-
-module _ (s : State) {s1 : State} {marks : List ℕ} (p1 : s1 ≡ onExposures ineligibleBack 64 s) (k : marks ≡ marksOf (moved s s1)) where
-  pub marks-in : Marked marks
-  marks-in = rw k (marks-small (moved s s1))
+module _ (s : State) {s1 : State} {gave : List ℕ} (p1 : s1 ≡ onExposures ineligibleBack 64 s) (k : gave ≡ flagsOf (moved s s1)) where
+  pub flags-in : Flags gave
+  flags-in = rw k (flags-small (moved s s1))
 
   module _ {s2 : State} (p2 : s2 ≡ onExposures excessBack 64 s1) where
     given-back : s2 ≡ givenBack s
@@ -34,8 +25,8 @@ module _ (s : State) {s1 : State} {marks : List ℕ} (p1 : s1 ≡ onExposures in
     given-back = rw p1 at p2
 
     -- "A: exposures that gave back"
-    gave : {a : ℕ} → a ≡ marksWith marks (moved s1 s2) → a ≡ count (moved s (givenBack s)) 64 0
-    gave q =
+    gave-back : {a : ℕ} → a ≡ countWith gave (moved s1 s2) → a ≡ count (moved s (givenBack s)) 64 0
+    gave-back q =
         rw k at q
         ∙ either-count (moved s s1) (moved s1 s2) (moved s s2)
         (λ e l. moved-both s s1 s2 e (rw p1 (pass-lower ineligibleBack own-ineligible s ineligible-less 64 e l)) (rw p2 (pass-lower excessBack own-excess s1 excess-less 64 e l)))
@@ -47,12 +38,12 @@ module _ (s : State) {s1 : State} {marks : List ℕ} (p1 : s1 ≡ onExposures in
       all-searched = rw given-back at p3
 
       -- "B: exposures that took in"
-      took : {b : ℕ} → b ≡ marksIn (moved s2 s3) → b ≡ count (moved (givenBack s) (searched s)) 64 0
-      took q = q ∙ marks-count (moved s2 s3) ∙ rw (given-back, all-searched)
+      took : {b : ℕ} → b ≡ countOf (moved s2 s3) → b ≡ count (moved (givenBack s) (searched s)) 64 0
+      took q = q ∙ flags-count (moved s2 s3) ∙ rw (given-back, all-searched)
 
-      pub mark-whole : {a b m : ℕ} → a ≡ marksWith marks (moved s1 s2) → b ≡ marksIn (moved s2 s3) → m ≡ sum (missingOf s3) 64
+      pub mark-whole : {a b m : ℕ} → a ≡ countWith gave (moved s1 s2) → b ≡ countOf (moved s2 s3) → m ≡ sum (missingOf s3) 64
           → (_≡_ {A = Totals} (record { a = a; b = b; m = m }) (totalsOf (marked s))) × (s3 ≡ marked s .state)
       unfolding marked
       mark-whole qa qb qm =
           let qs : sum (missingOf s3) 64 ≡ sum (missingOf (searched s)) 64 = rw all-searched in
-          (rw (gave qa, took qb, qm ∙ qs), all-searched)
+          (rw (gave-back qa, took qb, qm ∙ qs), all-searched)

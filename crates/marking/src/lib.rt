@@ -1,20 +1,99 @@
-// Kinds 10 and 11: mark and recall.
+// Kind 10: the mark, three passes over the exposures.
 ghost use mathlib.Core.Path.{_≡_};
-ghost use mathlib.Core.Bool.{true};
+ghost use mathlib.Core.Bool.{true, cond};
+ghost use Prim.Native.Nat.{_<_};
+ghost use lib.Dec.{eqb};
 ghost use lib.ListN.{length};
+ghost use Rattle.laws.specs.Filled.{filled};
+ghost use Rattle.laws.specs.Sum.{sum};
 ghost use Rattle.book.specs.Layout.{bookLength};
 ghost use Rattle.book.specs.State.{state};
-ghost use Rattle.records.specs.Writing.{areLegal};
-ghost use Rattle.rules.specs.Codes.{recallRules};
-ghost use Rattle.rules.specs.Marking.{marked, recall};
-ghost use Rattle.rules.specs.Outcome.{lowest};
+ghost use Rattle.bonds.specs.Moves.{SoundBook};
+ghost use Rattle.mark_steps.specs.Stepped.{Stepped};
+ghost use Rattle.rules.specs.Marking.{onExposures, moved, ineligibleBack, excessBack, shortfallIn, missingOf, marked};
 ghost use Rattle.rules.specs.Sound.{sound};
 ghost use Rattle.totals.specs.Totals.{totalsOf};
+ghost use Rattle.marking.specs.Flags.{Flags, flagsOf, countWith, countOf};
+use mark_steps::Passed;
 use totals::Totals;
 
-mod moves;
-mod passes;
-mod recalls;
+// What the second pass leaves: how many exposures gave back, in the first or in this one, and what is missing of each.
+struct Freed {
+    count: u64,
+    missing: [u64; 64],
+}
+
+// What the third pass leaves: how many exposures took in, and what is missing of all.
+struct Searched {
+    count: u64,
+    missing: u64,
+}
+
+// First pass: for each exposure, 1 where it gave back.
+fn give_all_ineligible(book: &mut [u8], columns: &[u64; 256]) -> [u64; 64]
+    requires { ⌜ SoundBook (now book) (now columns) ⌝ }
+    ensures { λ r. ⌜ SoundBook (now (book .exit)) (now (columns .entry)) × (state (now (book .exit)) ≡ onExposures ineligibleBack 64 (state (now (book .entry)))) × (r ≡ flagsOf (moved (state (now (book .entry))) (state (now (book .exit))))) ⌝ }
+{
+    let mut gave = [0u64; 64];
+    let mut e: usize = 0;
+    while e < 64 {
+        gave[e] = mark_steps::give_ineligible(book, columns, e);
+        e += 1;
+    }
+    gave
+}
+
+// An exposure counts once, whether it gave back in the first pass, the second or both.
+fn either(first: u64, second: u64) -> u64
+    ensures { λ r. ⌜ r ≡ cond (eqb first 0) second first ⌝ }
+{
+    if first == 0 { second } else { first }
+}
+
+// Second pass, one exposure: it is freed and no more; what is missing is searched for when all are freed.
+fn free_one(book: &mut [u8], columns: &[u64; 256], e: usize) -> Passed
+    requires { ⌜ SoundBook (now book) (now columns) × (e < 64) ⌝ }
+    ensures { λ r. ⌜ Stepped excessBack (now (columns .entry)) (now (book .entry)) (now (book .exit)) e (r .moved) × (r .missing ≡ missingOf (state (now (book .exit))) e) ⌝ }
+{
+    mark_steps::free_excess(book, columns, e)
+}
+
+// Second pass.
+fn free_all(book: &mut [u8], columns: &[u64; 256], gave: &[u64; 64]) -> Freed
+    requires { ⌜ SoundBook (now book) (now columns) × Flags (now gave) ⌝ }
+    ensures { λ r. ⌜ SoundBook (now (book .exit)) (now (columns .entry)) × (state (now (book .exit)) ≡ onExposures excessBack 64 (state (now (book .entry)))) × (r .count ≡ countWith (now (gave .entry)) (moved (state (now (book .entry))) (state (now (book .exit))))) × (r .missing ≡ filled (missingOf (state (now (book .exit)))) 64 64) ⌝ }
+{
+    let mut count: u64 = 0;
+    let mut missing = [0u64; 64];
+    let mut e: usize = 0;
+    while e < 64 {
+        let step = free_one(book, columns, e);
+        count += either(gave[e], step.moved);
+        missing[e] = step.missing;
+        e += 1;
+    }
+    Freed { count, missing }
+}
+
+// Third pass.
+fn search_all(book: &mut [u8], columns: &[u64; 256], missing: &[u64; 64]) -> Searched
+    requires { ⌜ SoundBook (now book) (now columns) × (now missing ≡ filled (missingOf (state (now book))) 64 64) ⌝ }
+    ensures { λ r. ⌜ (state (now (book .exit)) ≡ onExposures shortfallIn 64 (state (now (book .entry)))) × (r .count ≡ countOf (moved (state (now (book .entry))) (state (now (book .exit))))) × (r .missing ≡ sum (missingOf (state (now (book .exit)))) 64) ⌝ }
+{
+    let mut count: u64 = 0;
+    let mut after: u64 = 0;
+    let mut e: usize = 0;
+    while e < 64 {
+        let step = mark_steps::search_missing(book, columns, e, missing[e]);
+        count += step.moved;
+        after += step.missing;
+        e += 1;
+    }
+    Searched {
+        count,
+        missing: after,
+    }
+}
 
 // 10: the mark.
 pub fn mark(book: &mut [u8]) -> Totals
@@ -22,50 +101,13 @@ pub fn mark(book: &mut [u8]) -> Totals
     ensures { λ r. ⌜ (r ≡ totalsOf (marked (state (now (book .entry))))) × (state (now (book .exit)) ≡ marked (state (now (book .entry))) .state) ⌝ }
 {
     let columns = book::columns(book);
-    let marks = passes::give_all_ineligible(book, &columns);
-    let a = passes::free_all(book, &columns, &marks);
-    let b = passes::search_all(book, &columns);
-    let m = passes::missing_in_all(book, &columns);
-    Totals { a, b, m }
-}
-
-// 11: the code of a recall, found on copies of one account and one position.
-pub fn recall_code(book: &[u8], fields: &[u64; 8]) -> u64
-    requires { ⌜ (length (now book) ≡ bookLength) × (areLegal 11 (now fields) ≡ true) × (sound (state (now book)) ≡ true) ⌝ }
-    ensures { λ r. ⌜ r ≡ lowest (recallRules (state (now (book .entry))) (now (fields .entry))) ⌝ }
-{
-    let names = recalls::names_code(book, fields);
-    if names != 0 {
-        return names;
-    }
-    let holds = recalls::holds_code(book, fields);
-    if holds != 0 {
-        return holds;
-    }
-    if recalls::is_accepted(book, fields) {
-        0
-    } else {
-        16
-    }
-}
-
-// 11: the recall of an accepted record: the nominal goes back, the substitutes come in.
-pub fn recall(book: &mut [u8], fields: &[u64; 8]) -> Totals
-    requires { ⌜ (length (now book) ≡ bookLength) × (areLegal 11 (now fields) ≡ true) × (sound (state (now book)) ≡ true) × (lowest (recallRules (state (now book)) (now fields)) ≡ 0) ⌝ }
-    ensures { λ r. ⌜ (r ≡ totalsOf (recall (state (now (book .entry))) (now (fields .entry)))) × (state (now (book .exit)) ≡ recall (state (now (book .entry))) (now (fields .entry)) .state) ⌝ }
-{
-    let columns = book::columns(book);
-    let found = recalls::substitutes(book, &columns, fields);
-    let e = fields[1] as usize;
-    let i = fields[2] as usize;
-    let mut one = [0u64; 64];
-    one[i] = fields[3];
-    bonds::give_back(book, e, &one);
-    let nominals = found.nominals;
-    bonds::pledge(book, e, &nominals);
+    let gave = give_all_ineligible(book, &columns);
+    let freed = free_all(book, &columns, &gave);
+    let missing = freed.missing;
+    let searched = search_all(book, &columns, &missing);
     Totals {
-        a: 0,
-        b: found.count,
-        m: found.value,
+        a: freed.count,
+        b: searched.count,
+        m: searched.missing,
     }
 }

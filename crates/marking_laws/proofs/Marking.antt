@@ -134,9 +134,9 @@ module _ (s : State) where
     unfolding searched
     kept-searched = kept-then kept-givenBack (kept-pass shortfallIn kept-shortfall (givenBack s) (kept-givenBack .good) 64 (le-refl 64))
 
--- amounts stay where bonds alone move
-amounts-kept : {s t : State} → Bonds s t → (e : ℕ) → t exposures e ≡ s exposures e
-amounts-kept b e = b .others exposures e (λ q. omega arith) (λ q. omega arith)
+-- an exposure stays in use, with its amount, where bonds alone move
+pub amounts-kept : {s t : State} → Bonds s t → (e : ℕ) → (t useds e ≡ s useds e) × (t exposures e ≡ s exposures e)
+amounts-kept b e = (b .others useds e (λ q. omega arith) (λ q. omega arith), b .others exposures e (λ q. omega arith) (λ q. omega arith))
 
 pub keeps-mark : (s : State) → Good s → Keeps s (marked s)
 unfolding marked allNoted
@@ -145,7 +145,7 @@ keeps-mark s h =
     record {
       good = k .good;
       bonds = k .bonds;
-      amounts = λ p a e. rw (amounts-kept (searched-bonds s) e) (a e);
+      amounts = λ p a e. rw (amounts-kept (searched-bonds s) e .1) (a e);
     }
 
 module _ (s : State) (r : List ℕ) where
@@ -216,5 +216,5 @@ keeps-recall s r h legal free =
     record {
       good = k .good;
       bonds = k .bonds;
-      amounts = λ p a e. rw (amounts-kept (substituted-bonds s r) e) (a e);
+      amounts = λ p a e. rw (amounts-kept (substituted-bonds s r) e .1) (a e);
     }

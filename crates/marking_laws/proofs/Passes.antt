@@ -21,7 +21,7 @@ Local step = (s : State) (e : ℕ) → Own e s (step s e)
 
 module _ (step : State → ℕ → State) where
   -- what holds after the step where the exposure is used, and before it where it is not
-  used-cases : (P : State → Type 0) (s : State) (e : ℕ) → (s useds e ≡ 1 → P (step s e)) → P s → P (onUsed step s e)
+  pub used-cases : (P : State → Type 0) (s : State) (e : ℕ) → (s useds e ≡ 1 → P (step s e)) → P s → P (onUsed step s e)
   used-cases P s e used idle = ⊎-elim (λ q. rw q (used (eqb-true (s useds e) 1 q))) (λ q. rw q idle) (either (eqb (s useds e) 1))
 
   pub own-used : Local step → (s : State) (e : ℕ) → Own e s (onUsed step s e)

@@ -1,0 +1,5 @@
+pub mod Moving
+pub mod Passable
+pub mod Steps
+pub mod Values
+pub mod Ways

@@ -1,0 +1,73 @@
+-- `recalls::substitution::substitutes` meets its contract.
+-- Assumes nothing.
+use mathlib.Core.Path.{refl}
+use native.Mathlib.Omega.{arith}
+use Rattle.recalls.proofs.Accepting.{exposure-in, book-of, left-within, after-within, substitutes-found}
+use Rattle.bonds.proofs.Rows.{bounded, quoted, today-within, basket-below, oldest-le}
+use borrow.Author.Needs.{needs}
+use Rattle.recalls.proofs.substitution.substitutes.Statement.{statement}
+use Rattle.recalls.proofs.substitution.substitutes.Tie as tie
+
+element-copy-out-e : tie.Need-element-copy-out-e
+element-copy-out-e c = search needs
+
+position-left-requires : tie.Need-position-left-requires
+position-left-requires c κs = search needs
+
+worth-of-requires : tie.Need-worth-of-requires
+worth-of-requires c κs =
+    let k = c .before .before .before .before .pre in
+    (bounded (book-of (k .0) (k .1)), left-within (k .0) (λ i. c .before .before .before .shared-slice-known .given i .fits) (c .before .position-left .ensures))
+
+get-requires : tie.Need-get-requires
+get-requires c κs = (c .before .before .before .before .before .pre .0 .long, omega arith, exposure-in (c .before .before .before .before .before .pre .0))
+
+missing-from-requires : tie.Need-missing-from-requires
+missing-from-requires c κs = search needs
+
+account-after-requires : tie.Need-account-after-requires
+account-after-requires c κs = search needs
+
+basket-of-requires : tie.Need-basket-of-requires
+basket-of-requires c κs =
+    let k = c .before .before .before .before .before .before .before .before .pre in
+    (k .0 .long, exposure-in (k .0), basket-below (book-of (k .0) (k .1)) (exposure-in (k .0)) refl (k .0 .recallable .used))
+
+get-requires-2 : tie.Need-get-requires-2
+get-requires-2 c κs = search needs
+
+element-copy-out-pick : tie.Need-element-copy-out-pick
+element-copy-out-pick c = search needs
+
+pick-requires : tie.Need-pick-requires
+pick-requires c κs =
+    let k = c .before .before .before .before .before .before .before .before .before .before .before .before .pre in
+    let m = book-of (k .0) (k .1) in (
+      oldest-le m (exposure-in (k .0)) refl (k .0 .recallable .used) (c .before .before .before .basket-of .ensures),
+      today-within m (c .before .before .get2 .ensures),
+      bounded m,
+      quoted m,
+      after-within (k .0) (λ i. c .before .before .before .before .before .before .before .before .before .before .before .shared-slice-known .given i .fits) (c .before .before .before .before .account-after .ensures),
+    )
+
+returns : tie.Need-returns
+returns c =
+    let k = c .before .before .before .before .before .before .before .before .before .before .before .before .before .pre in
+    substitutes-found (k .0) (k .1) (c .before .before .before .before .before .before .before .before .before .before .position-left .ensures) (c .before .before .before .before .before .before .before .before .worth-of .ensures) (c .before .before .before .before .before .before .before .get .ensures) (c .before .before .before .before .before .before .missing-from .ensures) (c .before .before .before .before .before .account-after .ensures) (c .before .before .before .before .basket-of .ensures)
+    (c .before .before .before .get2 .ensures) (c .pick .ensures)
+
+pub substitutes-spec : {M : Type 1} → statement M
+substitutes-spec =
+    tie.close
+    (tie.spec
+    element-copy-out-e
+    position-left-requires
+    worth-of-requires
+    get-requires
+    missing-from-requires
+    account-after-requires
+    basket-of-requires
+    get-requires-2
+    element-copy-out-pick
+    pick-requires
+    returns)
