@@ -1,2 +1,3 @@
 pub mod Basket
+pub mod Fresh
 pub mod Report

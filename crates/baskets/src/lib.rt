@@ -3,10 +3,11 @@ ghost use mathlib.Core.Path.{_≡_};
 ghost use Prim.Native.Nat.{_<_, _≤_};
 ghost use Rattle.laws.specs.Bits.{hasBit};
 ghost use Rattle.laws.specs.Search.{least, count};
-ghost use Rattle.securities.specs.Security.{InBounds, AllInBounds, AllQuoted, securityAt};
-ghost use Rattle.baskets.specs.Basket.{qualifies, eligible};
+ghost use Rattle.securities.specs.Security.{InBounds, AllInBounds};
+ghost use Rattle.baskets.specs.Fresh.{qualifiesBy, eligibleBy, NoneBefore, FreshAges, EligibilityFor};
 ghost use Rattle.baskets.specs.Report.{report};
 use answers::OUT_OF_RANGE;
+use calendar::LAST_DAY;
 use securities::Security;
 
 // A basket: its map of securities (bit n is security n) and how old a price may be, in open days (document 01: the greatest age).
@@ -23,10 +24,16 @@ pub fn has_bit(map: u64, i: u64) -> bool
     (map >> i) % 2 == 1
 }
 
-// Is a security set up, its price fresh and one lot worth a cent or more?
-fn is_qualified(oldest: u64, today: u64, s: Security) -> bool
-    requires { ⌜ (oldest ≤ 255) × (today ≤ 146096) × (s .quote ≤ 146096) × InBounds s ⌝ }
-    ensures { λ r. ⌜ r ≡ qualifies oldest today s ⌝ }
+// Which securities are eligible for a basket on a day: those in its map whose price was quoted on this day or later.
+pub struct Eligibility {
+    pub map: u64,
+    pub since: u64,
+}
+
+// Is a security set up, quoted on a day or later, and one lot worth a cent or more?
+fn is_qualified(since: u64, s: Security) -> bool
+    requires { ⌜ InBounds s ⌝ }
+    ensures { λ r. ⌜ r ≡ qualifiesBy since s ⌝ }
 {
     if s.lot == 0 {
         return false;
@@ -34,18 +41,63 @@ fn is_qualified(oldest: u64, today: u64, s: Security) -> bool
     if valuation::value_of(s.lot, s.pricing) < 1 {
         return false;
     }
-    calendar::is_fresh(s.quote, today, oldest)
+    since <= s.quote
 }
 
-// Is the security i eligible for a basket?
-pub fn is_eligible(b: Basket, today: u64, columns: &[u64; 256], i: usize) -> bool
-    requires { ⌜ (i < 64) × (b .oldest ≤ 255) × (today ≤ 146096) × AllInBounds (now columns) × AllQuoted (now columns) ⌝ }
-    ensures { λ r. ⌜ r ≡ eligible b today (now (columns .entry)) i ⌝ }
+// Is the security i eligible?
+pub fn is_eligible(x: Eligibility, columns: &[u64; 256], i: usize) -> bool
+    requires { ⌜ (i < 64) × AllInBounds (now columns) ⌝ }
+    ensures { λ r. ⌜ r ≡ eligibleBy x (now (columns .entry)) i ⌝ }
 {
-    if has_bit(b.map, i as u64) {
-        is_qualified(b.oldest, today, securities::security_at(columns, i))
+    if has_bit(x.map, i as u64) {
+        is_qualified(x.since, securities::security_at(columns, i))
     } else {
         false
+    }
+}
+
+// The earlier of a day and the quote of a security, where it is set up.
+fn earlier_quote(day: u64, s: Security) -> u64
+    ensures { λ r. ⌜ (r ≤ day) × (0 < s .lot → r ≤ s .quote) ⌝ }
+{
+    if s.lot == 0 {
+        return day;
+    }
+    if s.quote < day { s.quote } else { day }
+}
+
+// A day before which no security that is set up was quoted.
+fn earliest_quote(columns: &[u64; 256]) -> u64
+    ensures { λ r. ⌜ NoneBefore r 64 (now (columns .entry)) ⌝ }
+{
+    let mut day = LAST_DAY;
+    let mut i: usize = 0;
+    while i < 64 {
+        day = earlier_quote(day, securities::security_at(columns, i));
+        i += 1;
+    }
+    day
+}
+
+// The first day of a fresh price for each greatest age up to `most`. Days before the earliest quote are not looked at.
+pub fn fresh_days(columns: &[u64; 256], today: u64, most: usize) -> [u64; 256]
+    requires { ⌜ most ≤ 255 ⌝ }
+    ensures { λ r. ⌜ FreshAges (now (columns .entry)) today most r ⌝ }
+{
+    let from = earliest_quote(columns);
+    calendar::fresh_days(from, today, most)
+}
+
+// Which securities are eligible for a basket on a day, by the age of their prices.
+pub fn eligibility_on(b: Basket, today: u64, columns: &[u64; 256]) -> Eligibility
+    requires { ⌜ b .oldest ≤ 255 ⌝ }
+    ensures { λ r. ⌜ EligibilityFor b today (now (columns .entry)) r ⌝ }
+{
+    let oldest = b.oldest as usize;
+    let days = fresh_days(columns, today, oldest);
+    Eligibility {
+        map: b.map,
+        since: days[oldest],
     }
 }
 

@@ -1,3 +1,4 @@
+pub mod Fresh
 pub mod Ready
 pub mod Rows
 pub mod Steps

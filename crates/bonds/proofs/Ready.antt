@@ -1,34 +1,21 @@
--- Where bonds may move: what a good book gives, and that the securities' columns depend on the securities alone.
+-- Where bonds may move: what a good book gives.
 -- Assumes nothing.
 use mathlib.Core.Path.{_≡_}
 use mathlib.Core.Bool.{Bool}
 use mathlib.Core.List.{List}
-use Prim.Native.Nat.{ℕ, zero, suc, _+_, _*_, _/_, _%_, _<_}
+use Prim.Native.Nat.{ℕ, _+_, _*_, _<_}
 use native.Mathlib.Nat.{le-refl}
 use native.Mathlib.Omega.{arith}
-use Rattle.book.specs.Layout.{lots, prices, haircuts, quotes, useds, exposureGivers, positions}
-use Rattle.book.specs.State.{State, columnsOf, Lowerable}
+use Rattle.book.specs.Layout.{useds, exposureGivers, positions}
+use Rattle.book.specs.State.{State, Lowerable}
 use Rattle.rules.specs.Stock.{positionOf, pickFor, freeFor}
 use Rattle.facts.proofs.Facts.{Sound}
-use Rattle.facts.proofs.Filled.{filled-same}
 use Rattle.facts.proofs.Keeps.{Good}
 use Rattle.facts.proofs.Rows.{used-exposure}
-use Rattle.facts.proofs.Stock.{columns-bounded, columns-quoted, today-le, age-le, account-within, position-within, position-at}
+use Rattle.facts.proofs.Stock.{columns-bounded, account-within, position-within, position-at}
 use Rattle.bond_laws.proofs.Lots.{Pledgeable, Returnable, pick-pledgeable, free-returnable, pledge-lowerable, giveBack-lowerable}
 use Rattle.bond_laws.proofs.Moving.{pledge-raisable, giveBack-raisable}
 use Rattle.bonds.specs.Moves.{Pledging, GivingBack, Pickable, Freeable}
-
--- the same securities, the same columns
-module _ (s t : State) (lot : (i : ℕ) → t lots i ≡ s lots i) (price : (i : ℕ) → t prices i ≡ s prices i) (haircut : (i : ℕ) → t haircuts i ≡ s haircuts i) (quote : (i : ℕ) → t quotes i ≡ s quotes i) where
-  each : (q i : ℕ) → q < 4 → t (lots + q) i ≡ s (lots + q) i
-  each zero i l = lot i
-  each (suc zero) i l = price i
-  each (suc (suc zero)) i l = haircut i
-  each (suc (suc (suc zero))) i l = quote i
-  each (suc (suc (suc (suc q)))) i l = absurd (omega arith)
-
-  pub columns-same : columnsOf t ≡ columnsOf s
-  columns-same = filled-same (λ k. t (lots + k / 64) (k % 64)) (λ k. s (lots + k / 64) (k % 64)) 256 256 (λ k l. each (k / 64) (k % 64) (omega arith))
 
 -- bonds of a used exposure may move, where they are within the row that they leave
 module _ (s : State) (e : ℕ) (by : List ℕ) (f : Sound s) (below : e < 64) (u : s useds e ≡ 1) where
@@ -66,10 +53,7 @@ module _ (s : State) (e : ℕ) where
           below = l;
           giver = x .parties .giver-below;
           basket = x .basket-below;
-          age = age-le s (g .facts) _ (x .basket-below);
-          day = today-le s (g .facts);
           bounded = columns-bounded s (g .facts);
-          quoted = columns-quoted s (g .facts);
           within = account-within s (g .facts) (s exposureGivers e) (x .parties .giver-below);
         }
 

@@ -6,15 +6,15 @@ use Prim.Native.Nat.{ℕ, _≤_, _<_}
 use lib.ListN.{getD}
 use Rattle.baskets.specs.declared.Basket.{Basket}
 use Rattle.securities.specs.Position.{nominalsOf, Within}
-use Rattle.securities.specs.Security.{AllInBounds, AllQuoted}
-use Rattle.book.specs.Layout.{today, useds, exposureBaskets, exposures}
+use Rattle.securities.specs.Security.{AllInBounds}
+use Rattle.book.specs.Layout.{useds, exposureBaskets, exposures}
 use Rattle.book.specs.State.{state}
 use Rattle.book.proofs.Images.{state-fits}
 use Rattle.rules.specs.Stock.{basketOf, positionOf}
 use Rattle.facts.proofs.Facts.{Sound, sound-facts}
 use Rattle.facts.proofs.Keeps.{Good}
 use Rattle.facts.proofs.Rows.{Exposure, used-exposure}
-use Rattle.facts.proofs.Stock.{columns-bounded, columns-quoted, today-le, age-le, position-within}
+use Rattle.facts.proofs.Stock.{columns-bounded, age-le, position-within}
 use Rattle.bonds.specs.Moves.{SoundBook}
 
 module _ {book columns : List ℕ} (m : SoundBook book columns) where
@@ -27,12 +27,6 @@ module _ {book columns : List ℕ} (m : SoundBook book columns) where
 
   pub bounded : AllInBounds columns
   bounded = rw (m .securities) (columns-bounded (state book) facts-of)
-
-  pub quoted : AllQuoted columns
-  quoted = rw (m .securities) (columns-quoted (state book) facts-of)
-
-  pub today-within : {t : ℕ} → t ≡ state book today 0 → t ≤ 146096
-  today-within e = rw e (today-le (state book) facts-of)
 
   module _ {e : ℕ} (below : e < 64) where
     pub row-within : {row : List ℕ} → row ≡ positionOf (state book) e → Within (nominalsOf row)

@@ -1,17 +1,19 @@
 -- The moves of bonds, step by step as the code takes them: the giver is read first.
 -- Assumes nothing.
-use mathlib.Core.Path.{_≡_}
+use mathlib.Core.Path.{_≡_, _∙_}
 use mathlib.Core.List.{List}
 use Prim.Native.Nat.{ℕ, _*_}
 use Rattle.book.specs.Layout.{exposureGivers, exposureBaskets, maps, ages, today, accounts, positions}
 use Rattle.book.specs.State.{State, rowAt, columnsOf, raised, lowered, Raisable, Lowerable}
-use Rattle.baskets.specs.Basket.{eligible}
+use Rattle.baskets.specs.Fresh.{eligibleBy, EligibilityFor}
 use Rattle.baskets.specs.declared.Basket.{Basket}
+use Rattle.baskets.specs.declared.Eligibility.{Eligibility}
 use Rattle.picking.specs.Free.{freed}
 use Rattle.picking.specs.Pick.{picked}
 use Rattle.picking.specs.declared.Freed.{Freed}
 use Rattle.picking.specs.declared.Outcome.{Outcome}
-use Rattle.rules.specs.Stock.{basketOf, pledge, giveBack, eligibleFor, pickFor, freeFor}
+use Rattle.picking.proofs.Picks.{picked-eligible}
+use Rattle.rules.specs.Stock.{accountOf, basketOf, pledge, giveBack, eligibleFor, pickFor, freeFor}
 use Rattle.bonds.specs.Moves.{Pledging, GivingBack}
 
 module _ (s : State) (e : ℕ) (by : List ℕ) {g : ℕ} (gq : g ≡ s exposureGivers e) where
@@ -40,9 +42,9 @@ basket-read s e bq mq aq = rw (mq, aq, bq)
 
 -- Pick and Free on the rows that the code reads
 module _ (s : State) (e amount : ℕ) {columns row : List ℕ} (cq : columns ≡ columnsOf s) where
-  pub picked-for : {g day : ℕ} {b : Basket} {o : Outcome} → g ≡ s exposureGivers e → row ≡ rowAt s accounts (64 * g) → b ≡ basketOf s e → day ≡ s today 0
-      → o ≡ picked columns row (eligible b day columns) amount → o ≡ pickFor s e (eligibleFor s e) amount
-  picked-for gq rq bq dq q = rw (q, rq, gq, bq, dq, cq)
+  pub picked-for : {g : ℕ} {x : Eligibility} {o : Outcome} → g ≡ s exposureGivers e → row ≡ rowAt s accounts (64 * g) → EligibilityFor (basketOf s e) (s today 0) (columnsOf s) x
+      → o ≡ picked columns row (eligibleBy x columns) amount → o ≡ pickFor s e (eligibleFor s e) amount
+  picked-for gq rq f q = rw (cq, rq, gq) at q ∙ picked-eligible (columnsOf s) (accountOf s (s exposureGivers e)) amount f
 
   pub freed-for : {f : Freed} → row ≡ rowAt s positions (64 * e) → f ≡ freed columns row amount → f ≡ freeFor s e amount
   freed-for rq q = rw (q, rq, cq)

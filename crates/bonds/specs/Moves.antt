@@ -5,12 +5,12 @@ use mathlib.Core.Bool.{true}
 use mathlib.Core.List.{List}
 use Prim.Native.Nat.{ℕ, _+_, _*_, _≤_, _<_}
 use lib.ListN.{length}
-use Rattle.book.specs.Layout.{bookLength, today, ages, exposureGivers, exposureBaskets, accounts, positions}
+use Rattle.book.specs.Layout.{bookLength, exposureGivers, exposureBaskets, accounts, positions}
 use Rattle.book.specs.State.{State, state, columnsOf, lowered, Raisable, Lowerable}
 use Rattle.rules.specs.Sound.{sound}
 use Rattle.rules.specs.Stock.{accountOf, positionOf}
 use Rattle.securities.specs.Position.{Within, nominalsOf}
-use Rattle.securities.specs.Security.{AllInBounds, AllQuoted}
+use Rattle.securities.specs.Security.{AllInBounds}
 
 -- a sound book with its securities' columns
 pub record SoundBook (book columns : List ℕ) : Type 0 where
@@ -36,10 +36,7 @@ pub record Pickable (s : State) (e : ℕ) : Type 0 where
   pub below : e < 64
   pub giver : s exposureGivers e < 32
   pub basket : s exposureBaskets e < 16
-  pub age : s ages (s exposureBaskets e) ≤ 255
-  pub day : s today 0 ≤ 146096
   pub bounded : AllInBounds (columnsOf s)
-  pub quoted : AllQuoted (columnsOf s)
   pub within : Within (nominalsOf (accountOf s (s exposureGivers e)))
 
 -- and Free: account and position together fit four bytes

@@ -1,4 +1,5 @@
 pub mod Answers
+pub mod Fresh
 pub mod Holidays
 pub mod EasterTable
 pub mod OpenDays

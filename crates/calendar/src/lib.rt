@@ -1,11 +1,11 @@
 // The TARGET calendar. Day 0 is Tuesday 1 January 2002, and the last day is 146096, Monday 31 December 2401.
 // It needs no book, and other desks link it by itself.
 ghost use mathlib.Core.Path.{_≡_};
-ghost use Prim.Native.Nat.{_+_, _≤_, _<_, min};
-ghost use lib.Dec.{leb};
+ghost use Prim.Native.Nat.{_+_, _≤_, _<_};
 ghost use Rattle.calendar.specs.Answers.{isOpenAnswer, nextOpenDayAnswer, ageAnswer};
 ghost use Rattle.calendar.specs.Gregorian.{startOf, yearOf};
 ghost use Rattle.calendar.specs.Easter.{easter};
+ghost use Rattle.calendar.specs.Fresh.{FreshDays};
 ghost use Rattle.calendar.specs.Target.{easterHoliday, holiday, openDay, nextOpenDay, age};
 ghost use Rattle.calendar.specs.YearDay.{yearDay};
 use answers::Answer;
@@ -127,48 +127,41 @@ pub fn next_open_day(day: u64) -> u64
     next
 }
 
-// The age of a price, or the cap where it is older: a search that ends as soon as the answer is settled.
-fn age_up_to(quote: u64, today: u64, cap: u64) -> u64
-    requires { ⌜ (quote ≤ 146096) × (today ≤ 146096) ⌝ }
-    ensures { λ r. ⌜ r ≡ min cap (age quote today) ⌝ }
-{
-    let mut n: u64 = 0;
-    let mut i = quote + 1;
-    while i <= today {
-        if cap <= n {
-            return cap;
-        }
-        if is_open(i) {
-            n += 1;
-        }
-        i += 1;
-    }
-    smaller(cap, n)
-}
-
-fn smaller(a: u64, b: u64) -> u64
-    ensures { λ r. ⌜ r ≡ min a b ⌝ }
-{
-    if a <= b { a } else { b }
-}
-
 // The age of a price: the open days after its quote day up to and including today, 0 where the quote is after today.
 pub fn age_of(quote: u64, today: u64) -> u64
     requires { ⌜ (quote ≤ 146096) × (today ≤ 146096) ⌝ }
     ensures { λ r. ⌜ r ≡ age quote today ⌝ }
 {
-    age_up_to(quote, today, LAST_DAY)
+    let mut n: u64 = 0;
+    let mut i = quote + 1;
+    while i <= today {
+        if is_open(i) {
+            n += 1;
+        }
+        i += 1;
+    }
+    n
 }
 
-// Is the age of a price at most the greatest age? It is where no more days have gone by, open or not.
-pub fn is_fresh(quote: u64, today: u64, greatest: u64) -> bool
-    requires { ⌜ (quote ≤ 146096) × (today ≤ 146096) × (greatest ≤ 255) ⌝ }
-    ensures { λ r. ⌜ r ≡ leb (age quote today) greatest ⌝ }
+// The first day of a fresh price for each greatest age up to `most`. No price is quoted before `from`, and no day before it is looked at.
+pub fn fresh_days(from: u64, today: u64, most: usize) -> [u64; 256]
+    requires { ⌜ most ≤ 255 ⌝ }
+    ensures { λ r. ⌜ FreshDays from today most r ⌝ }
 {
-    if today <= quote + greatest {
-        return true;
+    let mut days = [0u64; 256];
+    let mut age: usize = 0;
+    let mut first = today;
+    while from < first {
+        if most < age {
+            return days;
+        }
+        if is_open(first) {
+            days[age] = first;
+            age += 1;
+        }
+        first -= 1;
     }
-    age_up_to(quote, today, greatest + 1) <= greatest
+    days
 }
 
 // Is a day open (1) or closed (0)? Code 7 above 146096.

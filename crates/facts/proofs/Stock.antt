@@ -17,7 +17,7 @@ use Rattle.laws.proofs.Filled.{filled-at}
 use Rattle.laws.proofs.Sum.{sum-part}
 use Rattle.calendar.specs.Target.{openDay}
 use Rattle.calendar.proofs.OpenDays.{open-within}
-use Rattle.securities.specs.Security.{securityAt, InBounds, AllInBounds, AllQuoted}
+use Rattle.securities.specs.Security.{securityAt, InBounds, AllInBounds}
 use Rattle.securities.specs.Position.{Within, nominalsOf}
 use Rattle.book.specs.Layout.{today, lots, prices, haircuts, quotes, ages, maps, useds, exposureGivers, accounts, positions}
 use Rattle.book.specs.State.{State, columnsOf, rowAt}
@@ -43,9 +43,6 @@ module _ (s : State) where
 
   pub haircut-at : (i : ℕ) → i < 64 → securityAt (columnsOf s) i .pricing .haircut ≡ s haircuts i
   haircut-at i l = column-at 2 i (omega arith) l
-
-  pub quote-at : (i : ℕ) → i < 64 → securityAt (columnsOf s) i .quote ≡ s quotes i
-  quote-at i l = column-at 3 i (omega arith) l
 
   -- the account and the position, number by number
   pub account-at : (p i : ℕ) → i < 64 → getD (accountOf s p) i 0 ≡ s accounts (64 * p + i)
@@ -83,13 +80,6 @@ module _ (s : State) where
         (λ u. let t = split (eqb (s prices i) 0 ∷ eqb (s haircuts i) 0 ∷ eqb (s quotes i) 0 ∷ []) (rw u at (f .security i l)) in omega (arith, eqb-true (s haircuts i) 0 (t .1 .0)))
         (either (securitySetUp s i))
 
-    pub quote-le : (i : ℕ) → i < 64 → s quotes i ≤ 146096
-    quote-le i l =
-        ⊎-elim
-        (λ u. let t = split (leb (s lots i) 1000000 ∷ between 1 3000000 (s prices i) ∷ leb (s haircuts i) 9999 ∷ openDay (s quotes i) ∷ []) (rw u at (f .security i l)) in open-within (s quotes i) (t .1 .1 .1))
-        (λ u. let t = split (eqb (s prices i) 0 ∷ eqb (s haircuts i) 0 ∷ eqb (s quotes i) 0 ∷ []) (rw u at (f .security i l)) in omega (arith, eqb-true (s quotes i) 0 (t .1 .1)))
-        (either (securitySetUp s i))
-
     -- what Pick, Free and a value count on
     pub columns-bounded : AllInBounds (columnsOf s)
     columns-bounded = record {
@@ -99,9 +89,6 @@ module _ (s : State) where
         priced = λ m. rw (price-at i l) (priced i l (rw (lot-at i l) at m));
       };
     }
-
-    pub columns-quoted : AllQuoted (columnsOf s)
-    columns-quoted = record { quoted = λ i l. rw (quote-at i l) (quote-le i l) }
 
     pub today-le : s today 0 ≤ 146096
     today-le = open-within (s today 0) (head-facts s (f .head) .open-today)

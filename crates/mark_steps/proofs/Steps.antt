@@ -1,7 +1,7 @@
 -- One exposure's step of each pass: what the code finds on arrays is what the definition gives back or pledges.
 -- Assumes nothing.
 use mathlib.Core.Path.{_≡_, sym, ap, _∙_}
-use mathlib.Core.Bool.{cond}
+use mathlib.Core.Bool.{Bool, cond}
 use mathlib.Core.List.{List}
 use mathlib.Core.Logic.{⊎-elim}
 use Prim.Native.Nat.{ℕ, _+_, _*_, _-_, _<_}
@@ -11,7 +11,9 @@ use lib.ListN.{length, getD}
 use borrow.Author.Tests.{eq-eqb, ne-eqb, lt-ltb, le-ltb}
 use Rattle.laws.specs.Filled.{filled}
 use Rattle.laws.proofs.Cases.{either}
-use Rattle.baskets.specs.declared.Basket.{Basket}
+use Rattle.baskets.specs.Fresh.{EligibilityFor}
+use Rattle.baskets.specs.declared.Eligibility.{Eligibility}
+use Rattle.baskets.proofs.Eligible.{eligible-same}
 use Rattle.picking.specs.Free.{freed}
 use Rattle.picking.specs.declared.Freed.{Freed}
 use Rattle.picking.specs.declared.Outcome.{Outcome}
@@ -49,14 +51,14 @@ module _ {book columns : List ℕ} {e : ℕ} (m : SoundBook book columns) where
 
     module _ {u : ℕ} (q : u ≡ state book useds e) (o : u ≡ 1) {position : List ℕ} (p : position ≡ positionOf (state book) e) where
       -- first pass
-      module _ {basket : Basket} {day : ℕ} {nominals : List ℕ} (b : basket ≡ basketOf (state book) e) (d : day ≡ state book today 0)
-          (n : nominals ≡ filled (ineligibleIn position columns basket day) 64 64) where
+      module _ {x : Eligibility} {nominals : List ℕ} (f : EligibilityFor (basketOf (state book) e) (state book today 0) (columnsOf (state book)) x)
+          (n : nominals ≡ filled (ineligibleIn position columns x) 64 64) where
         ineligible-is : nominals ≡ ineligibleOf (state book) e
         ineligible-is =
             let s = state book in
-            rw (p, b, d, m .securities) at n
-            ∙ filled-same (ineligibleIn (positionOf s e) (columnsOf s) (basketOf s e) (s today 0)) (λ i. cond (eligibleFor s e i) 0 (s positions (64 * e + i))) 64 64
-            (λ i l. ap (cond (eligibleFor s e i) 0) (position-at s e i l))
+            rw (p, m .securities) at n
+            ∙ filled-same (ineligibleIn (positionOf s e) (columnsOf s) x) (λ i. cond (eligibleFor s e i) 0 (s positions (64 * e + i))) 64 64
+            (λ i l. ap (λ (b : Bool). cond b 0 (getD (positionOf s e) i 0)) (eligible-same f i l) ∙ ap (cond (eligibleFor s e i) 0) (position-at s e i l))
 
         pub ineligible-gives : GivingBack (state book) e nominals
         ineligible-gives = rw ineligible-is (gives-back (state book) e (ineligibleOf (state book) e) (facts-of m) below (sym q ∙ o) (ineligible-returnable (state book) e (facts-of m) below))

@@ -10,8 +10,8 @@ use lib.ListN.{getD}
 use borrow.Author.Tests.{eq-eqb, ne-eqb}
 use Rattle.laws.proofs.Cases.{either}
 use Rattle.laws.proofs.Least.{Rest, loop-fails, loop-passes}
-use Rattle.baskets.specs.Basket.{eligible}
-use Rattle.baskets.specs.declared.Basket.{Basket}
+use Rattle.baskets.specs.Fresh.{eligibleBy}
+use Rattle.baskets.specs.declared.Eligibility.{Eligibility}
 use Rattle.mark_steps.specs.Stepped.{ineligibleIn}
 
 -- a search for a nominal that is not 0
@@ -26,12 +26,12 @@ module _ (nominals : List ℕ) {i : ℕ} {whole : Bool} (r : Rest (isZero nomina
   found-none z = loop-passes r l refl (rw (eq-eqb (getD nominals i 0) 0 z))
 
 -- one security of a position
-module _ (position columns : List ℕ) (basket : Basket) (today i : ℕ) where
-  pub no-nominal : getD position i 0 ≡ 0 → 0 ≡ ineligibleIn position columns basket today i
-  no-nominal z = ⊎-elim (λ e. rw e) (λ e. rw e (sym z)) (either (eligible basket today columns i))
+module _ (position columns : List ℕ) (x : Eligibility) (i : ℕ) where
+  pub no-nominal : getD position i 0 ≡ 0 → 0 ≡ ineligibleIn position columns x i
+  no-nominal z = ⊎-elim (λ e. rw e) (λ e. rw e (sym z)) (either (eligibleBy x columns i))
 
-  pub stays : {b : Bool} → b ≡ eligible basket today columns i → b ≡ true → 0 ≡ ineligibleIn position columns basket today i
+  pub stays : {b : Bool} → b ≡ eligibleBy x columns i → b ≡ true → 0 ≡ ineligibleIn position columns x i
   stays e t = rw (sym e ∙ t)
 
-  pub goes : {b : Bool} → b ≡ eligible basket today columns i → b ≡ false → getD position i 0 ≡ ineligibleIn position columns basket today i
+  pub goes : {b : Bool} → b ≡ eligibleBy x columns i → b ≡ false → getD position i 0 ≡ ineligibleIn position columns x i
   goes e t = rw (sym e ∙ t)

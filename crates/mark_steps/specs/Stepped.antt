@@ -5,8 +5,8 @@ use mathlib.Core.Bool.{Bool, cond}
 use mathlib.Core.List.{List}
 use Prim.Native.Nat.{ℕ}
 use lib.ListN.{getD}
-use Rattle.baskets.specs.Basket.{eligible}
-use Rattle.baskets.specs.declared.Basket.{Basket}
+use Rattle.baskets.specs.Fresh.{eligibleBy}
+use Rattle.baskets.specs.declared.Eligibility.{Eligibility}
 use Rattle.book.specs.State.{State, state}
 use Rattle.bonds.specs.Moves.{SoundBook}
 use Rattle.rules.specs.Marking.{moved}
@@ -22,6 +22,6 @@ pub record Stepped (step : State → ℕ → State) (columns before after : List
   pub stepped : state after ≡ onUsed step (state before) e
   pub flag-is : flag ≡ bit (moved (state before) (state after) e)
 
--- the nominals of a position that are not eligible for a basket
-abbrev pub ineligibleIn : List ℕ → List ℕ → Basket → ℕ → ℕ → ℕ
-ineligibleIn position columns basket today i = cond (eligible basket today columns i) 0 (getD position i 0)
+-- the nominals of a position that are not eligible
+abbrev pub ineligibleIn : List ℕ → List ℕ → Eligibility → ℕ → ℕ
+ineligibleIn position columns x i = cond (eligibleBy x columns i) 0 (getD position i 0)

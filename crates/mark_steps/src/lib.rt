@@ -1,20 +1,20 @@
 // One exposure's part in each pass of a mark: its ineligible bonds go back, then those it does not need; what is missing is searched for.
 ghost use mathlib.Core.Path.{_≡_};
-ghost use Prim.Native.Nat.{_<_, _≤_};
+ghost use Prim.Native.Nat.{_<_};
 ghost use lib.ListN.{length};
 ghost use Rattle.laws.specs.Filled.{filled};
 ghost use Rattle.book.specs.Layout.{bookLength};
 ghost use Rattle.book.specs.State.{state};
+ghost use Rattle.bonds.specs.Fresh.{FreshBaskets};
 ghost use Rattle.bonds.specs.Moves.{SoundBook, GivingBack};
 ghost use Rattle.rules.specs.Marking.{moved, ineligibleBack, excessBack, shortfallIn, missingOf};
 ghost use Rattle.rules.specs.Stock.{giveBack};
-ghost use Rattle.securities.specs.Security.{AllInBounds, AllQuoted};
+ghost use Rattle.securities.specs.Security.{AllInBounds};
 ghost use Rattle.marking_laws.specs.Pass.{isEmpty};
 ghost use Rattle.mark_steps.specs.Stepped.{Stepped, bit, ineligibleIn};
-use baskets::Basket;
+use baskets::Eligibility;
 use book::layout::EXPOSURES;
 use book::layout::POSITIONS;
-use book::layout::TODAY;
 use book::layout::USEDS;
 
 // What a step leaves of an exposure: 1 where its position is another, and what its value is short of its amount.
@@ -49,53 +49,47 @@ fn give_any_back(book: &mut [u8], e: usize, nominals: &[u64; 64]) -> u64
     1
 }
 
-// The whole nominal of a security that is not eligible for a basket, else nothing.
-fn ineligible_nominal(
-    position: &[u64; 64],
-    columns: &[u64; 256],
-    basket: Basket,
-    today: u64,
-    i: usize,
-) -> u64
-    requires { ⌜ (i < 64) × (basket .oldest ≤ 255) × (today ≤ 146096) × AllInBounds (now columns) × AllQuoted (now columns) ⌝ }
-    ensures { λ r. ⌜ r ≡ ineligibleIn (now (position .entry)) (now (columns .entry)) basket today i ⌝ }
+// The whole nominal of a security that is not eligible, else nothing.
+fn ineligible_nominal(position: &[u64; 64], columns: &[u64; 256], x: Eligibility, i: usize) -> u64
+    requires { ⌜ (i < 64) × AllInBounds (now columns) ⌝ }
+    ensures { λ r. ⌜ r ≡ ineligibleIn (now (position .entry)) (now (columns .entry)) x i ⌝ }
 {
     let nominal = position[i];
     if nominal == 0 {
         return 0;
     }
-    if baskets::is_eligible(basket, today, columns, i) {
+    if baskets::is_eligible(x, columns, i) {
         0
     } else {
         nominal
     }
 }
 
-// The nominals of a position that are not eligible for its basket.
-fn ineligible(position: &[u64; 64], columns: &[u64; 256], basket: Basket, today: u64) -> [u64; 64]
-    requires { ⌜ (basket .oldest ≤ 255) × (today ≤ 146096) × AllInBounds (now columns) × AllQuoted (now columns) ⌝ }
-    ensures { λ r. ⌜ r ≡ filled (ineligibleIn (now (position .entry)) (now (columns .entry)) basket today) 64 64 ⌝ }
+// The nominals of a position that are not eligible.
+fn ineligible(position: &[u64; 64], columns: &[u64; 256], x: Eligibility) -> [u64; 64]
+    requires { ⌜ AllInBounds (now columns) ⌝ }
+    ensures { λ r. ⌜ r ≡ filled (ineligibleIn (now (position .entry)) (now (columns .entry)) x) 64 64 ⌝ }
 {
     let mut nominals = [0u64; 64];
     let mut i: usize = 0;
     while i < 64 {
-        nominals[i] = ineligible_nominal(position, columns, basket, today, i);
+        nominals[i] = ineligible_nominal(position, columns, x, i);
         i += 1;
     }
     nominals
 }
 
 // First pass: gives back what is not eligible; 1 where there was anything.
-pub fn give_ineligible(book: &mut [u8], columns: &[u64; 256], e: usize) -> u64
-    requires { ⌜ SoundBook (now book) (now columns) × (e < 64) ⌝ }
+pub fn give_ineligible(book: &mut [u8], columns: &[u64; 256], since: &[u64; 16], e: usize) -> u64
+    requires { ⌜ SoundBook (now book) (now columns) × (e < 64) × FreshBaskets (state (now book)) (now since) ⌝ }
     ensures { λ r. ⌜ Stepped ineligibleBack (now (columns .entry)) (now (book .entry)) (now (book .exit)) e r ⌝ }
 {
     if book::get(book, USEDS, e) != 1 {
         return 0;
     }
     let position = book::row_at(book, POSITIONS, 64 * e);
-    let basket = bonds::basket_of(book, e);
-    let nominals = ineligible(&position, columns, basket, book::get(book, TODAY, 0));
+    let x = bonds::eligibility_of(book, since, e);
+    let nominals = ineligible(&position, columns, x);
     give_any_back(book, e, &nominals)
 }
 
@@ -122,14 +116,20 @@ pub fn free_excess(book: &mut [u8], columns: &[u64; 256], e: usize) -> Passed
 }
 
 // Third pass: picks what is missing. A position is valued anew, each security at its whole nominal, where it took in.
-pub fn search_missing(book: &mut [u8], columns: &[u64; 256], e: usize, missing: u64) -> Passed
-    requires { ⌜ SoundBook (now book) (now columns) × (e < 64) × (missing ≡ missingOf (state (now book)) e) ⌝ }
+pub fn search_missing(
+    book: &mut [u8],
+    columns: &[u64; 256],
+    since: &[u64; 16],
+    e: usize,
+    missing: u64,
+) -> Passed
+    requires { ⌜ SoundBook (now book) (now columns) × (e < 64) × (missing ≡ missingOf (state (now book)) e) × FreshBaskets (state (now book)) (now since) ⌝ }
     ensures { λ r. ⌜ Stepped shortfallIn (now (columns .entry)) (now (book .entry)) (now (book .exit)) e (r .moved) × (r .missing ≡ missingOf (state (now (book .exit))) e) ⌝ }
 {
     if missing == 0 {
         return Passed { moved: 0, missing };
     }
-    let found = bonds::pick_for(book, columns, e, missing);
+    let found = bonds::pick_for(book, columns, since, e, missing);
     let nominals = found.nominals;
     if is_empty(&nominals) {
         return Passed { moved: 0, missing };

@@ -12,9 +12,11 @@ use lib.Dec.{eqb}
 use borrow.Author.Tests.{eqb-true}
 use Rattle.laws.proofs.Cases.{either}
 use Rattle.securities.specs.Position.{worth, nominalsOf}
-use Rattle.book.specs.Layout.{useds, exposures, positions}
+use Rattle.book.specs.Layout.{today, ages, useds, exposures, positions}
 use Rattle.book.specs.State.{State, state, columnsOf}
+use Rattle.bonds.specs.Fresh.{FreshBaskets, SamePrices}
 use Rattle.bonds.specs.Moves.{SoundBook}
+use Rattle.bonds.proofs.Fresh.{fresh-same}
 use Rattle.bonds.proofs.Rows.{amount-le}
 use Rattle.facts.proofs.Filled.{filled-same}
 use Rattle.rules.specs.Marking.{onExposures, moved, missingOf}
@@ -47,6 +49,19 @@ missing-le {book} {columns} {e} m below =
     (λ t. let a = amount-le m below refl (eqb-true (state book useds e) 1 t) in rw t (omega arith))
     (λ f. rw f (omega arith))
     (either (eqb (state book useds e) 1))
+
+-- no pass changes a price
+pass-prices : {step : State → ℕ → State} → Passable step → (s : State) (n : ℕ) → SamePrices s (onExposures step n s)
+pass-prices {step} p s n =
+    let b = pass-bonds step (p .local) s n in
+    record {
+      columns = columns-kept b;
+      day = b .others today 0 (λ q. omega arith) (λ q. omega arith);
+      ages-kept = λ j. b .others ages j (λ q. omega arith) (λ q. omega arith);
+    }
+
+pub passed-fresh : {step : State → ℕ → State} → Passable step → (n : ℕ) {s t : State} {since : List ℕ} → t ≡ onExposures step n s → FreshBaskets s since → FreshBaskets t since
+passed-fresh p n {s} q f = fresh-same (rw q (pass-prices p s n)) f
 
 -- the book after the exposures below e
 pub record On (step : State → ℕ → State) (columns start book : List ℕ) (e : ℕ) : Type 0 where

@@ -8,6 +8,7 @@ ghost use Rattle.laws.specs.Filled.{filled};
 ghost use Rattle.laws.specs.Sum.{sum};
 ghost use Rattle.book.specs.Layout.{bookLength};
 ghost use Rattle.book.specs.State.{state};
+ghost use Rattle.bonds.specs.Fresh.{FreshBaskets};
 ghost use Rattle.bonds.specs.Moves.{SoundBook};
 ghost use Rattle.mark_steps.specs.Stepped.{Stepped};
 ghost use Rattle.rules.specs.Marking.{onExposures, moved, ineligibleBack, excessBack, shortfallIn, missingOf, marked};
@@ -30,14 +31,14 @@ struct Searched {
 }
 
 // First pass: for each exposure, 1 where it gave back.
-fn give_all_ineligible(book: &mut [u8], columns: &[u64; 256]) -> [u64; 64]
-    requires { ⌜ SoundBook (now book) (now columns) ⌝ }
+fn give_all_ineligible(book: &mut [u8], columns: &[u64; 256], since: &[u64; 16]) -> [u64; 64]
+    requires { ⌜ SoundBook (now book) (now columns) × FreshBaskets (state (now book)) (now since) ⌝ }
     ensures { λ r. ⌜ SoundBook (now (book .exit)) (now (columns .entry)) × (state (now (book .exit)) ≡ onExposures ineligibleBack 64 (state (now (book .entry)))) × (r ≡ flagsOf (moved (state (now (book .entry))) (state (now (book .exit))))) ⌝ }
 {
     let mut gave = [0u64; 64];
     let mut e: usize = 0;
     while e < 64 {
-        gave[e] = mark_steps::give_ineligible(book, columns, e);
+        gave[e] = mark_steps::give_ineligible(book, columns, since, e);
         e += 1;
     }
     gave
@@ -76,15 +77,20 @@ fn free_all(book: &mut [u8], columns: &[u64; 256], gave: &[u64; 64]) -> Freed
 }
 
 // Third pass.
-fn search_all(book: &mut [u8], columns: &[u64; 256], missing: &[u64; 64]) -> Searched
-    requires { ⌜ SoundBook (now book) (now columns) × (now missing ≡ filled (missingOf (state (now book))) 64 64) ⌝ }
+fn search_all(
+    book: &mut [u8],
+    columns: &[u64; 256],
+    since: &[u64; 16],
+    missing: &[u64; 64],
+) -> Searched
+    requires { ⌜ SoundBook (now book) (now columns) × (now missing ≡ filled (missingOf (state (now book))) 64 64) × FreshBaskets (state (now book)) (now since) ⌝ }
     ensures { λ r. ⌜ (state (now (book .exit)) ≡ onExposures shortfallIn 64 (state (now (book .entry)))) × (r .count ≡ countOf (moved (state (now (book .entry))) (state (now (book .exit))))) × (r .missing ≡ sum (missingOf (state (now (book .exit)))) 64) ⌝ }
 {
     let mut count: u64 = 0;
     let mut after: u64 = 0;
     let mut e: usize = 0;
     while e < 64 {
-        let step = mark_steps::search_missing(book, columns, e, missing[e]);
+        let step = mark_steps::search_missing(book, columns, since, e, missing[e]);
         count += step.moved;
         after += step.missing;
         e += 1;
@@ -101,10 +107,11 @@ pub fn mark(book: &mut [u8]) -> Totals
     ensures { λ r. ⌜ (r ≡ totalsOf (marked (state (now (book .entry))))) × (state (now (book .exit)) ≡ marked (state (now (book .entry))) .state) ⌝ }
 {
     let columns = book::columns(book);
-    let gave = give_all_ineligible(book, &columns);
+    let since = bonds::fresh_since(book, &columns);
+    let gave = give_all_ineligible(book, &columns, &since);
     let freed = free_all(book, &columns, &gave);
     let missing = freed.missing;
-    let searched = search_all(book, &columns, &missing);
+    let searched = search_all(book, &columns, &since, &missing);
     Totals {
         a: freed.count,
         b: searched.count,

@@ -8,13 +8,13 @@ use lib.Dec.{eqb, leb}
 use borrow.Author.Tests.{eq-eqb, ne-eqb, le-leb, lt-leb, leb-true, not-true, not-false}
 use Rattle.answers.specs.Answers.{outOfRange, badDay}
 use Rattle.laws.proofs.Cases.{and-left, and-right}
-use Rattle.baskets.specs.Basket.{eligible}
+use Rattle.baskets.specs.Fresh.{eligibleBy, EligibilityFor}
 use Rattle.baskets.specs.declared.Basket.{Basket}
-use Rattle.calendar.specs.Target.{lastDay, openDay}
-use Rattle.calendar.proofs.OpenDays.{open-within}
+use Rattle.baskets.specs.declared.Eligibility.{Eligibility}
+use Rattle.calendar.specs.Target.{openDay}
 use Rattle.securities.specs.Position.{nominalsOf, Within, legalNominals}
-use Rattle.securities.specs.Security.{AllInBounds, AllQuoted, legalSecurities, legalQuotes}
-use Rattle.securities.proofs.Legal.{all-in-bounds, all-quoted, all-within}
+use Rattle.securities.specs.Security.{AllInBounds, legalSecurities, legalQuotes}
+use Rattle.securities.proofs.Legal.{all-in-bounds, all-within}
 use Rattle.picking.specs.Answers.{legalPick, legalDays, legalFree, pickRefused, freeRefused, pickedFor, freedDown}
 use Rattle.picking.specs.Free.{freed}
 use Rattle.picking.specs.Pick.{picked}
@@ -22,6 +22,7 @@ use Rattle.picking.specs.declared.FreeAnswer.{FreeAnswer}
 use Rattle.picking.specs.declared.Freed.{Freed}
 use Rattle.picking.specs.declared.Outcome.{Outcome}
 use Rattle.picking.specs.declared.PickAnswer.{PickAnswer}
+use Rattle.picking.proofs.Picks.{picked-eligible}
 
 module _ (columns account : List ℕ) (k : Basket) (amount : ℕ) {b : Bool} where
   pub pick-nominals : b ≡ legalNominals account → not b ≡ true → false ≡ legalPick columns account k amount
@@ -50,12 +51,12 @@ module _ (columns account : List ℕ) (k : Basket) (amount : ℕ) where
 pub record PickReady (columns account : List ℕ) (k : Basket) : Type 0 where
   pub oldest-le : k .oldest ≤ 255
   pub in-bounds : AllInBounds columns
-  pub securities : legalSecurities columns ≡ true
   pub within : Within (nominalsOf account)
 
-pub pick-ready : (columns account : List ℕ) (k : Basket) (amount : ℕ) → legalPick columns account k amount ≡ true → PickReady columns account k
+pub pick-ready : (columns account : List ℕ) (k : Basket) (amount : ℕ) {b : Bool} → b ≡ legalPick columns account k amount → not b ≡ false → PickReady columns account k
 unfolding legalPick
-pick-ready columns account k amount h =
+pick-ready columns account k amount {b} e f =
+    let h : legalPick columns account k amount ≡ true = sym e ∙ not-false b f in
     let age = leb (k .oldest) 255 && leb amount 10000000000000 in
     let map = not (eqb (k .map) 0) && age in
     let h1 = and-right (legalNominals account) (legalSecurities columns && map) h in
@@ -64,7 +65,6 @@ pick-ready columns account k amount h =
     record {
       oldest-le = leb-true (k .oldest) 255 (and-left (leb (k .oldest) 255) (leb amount 10000000000000) h3);
       in-bounds = all-in-bounds columns (and-left (legalSecurities columns) map h1);
-      securities = and-left (legalSecurities columns) map h1;
       within = all-within account (and-left (legalNominals account) (legalSecurities columns && map) h);
     }
 
@@ -76,14 +76,6 @@ module _ (columns : List ℕ) (today : ℕ) where
   pub by-quotes : {b q : Bool} → b ≡ openDay today → not b ≡ false → q ≡ legalQuotes today columns → q ≡ legalDays columns today
   unfolding legalDays
   by-quotes {b} e f g = rw (sym e ∙ not-false b f) g
-
-  pub today-within : legalDays columns today ≡ true → today ≤ lastDay
-  unfolding legalDays
-  today-within h = open-within today (and-left (openDay today) (legalQuotes today columns) h)
-
-  pub quotes-within : legalSecurities columns ≡ true → legalDays columns today ≡ true → AllQuoted columns
-  unfolding legalDays
-  quotes-within s h = all-quoted columns today s (and-right (openDay today) (legalQuotes today columns) h)
 
 module _ (columns position : List ℕ) (exposure : ℕ) where
   pub free-nominals : {b : Bool} → b ≡ legalNominals position → not b ≡ true → false ≡ legalFree columns position exposure
@@ -119,11 +111,12 @@ module _ (columns account : List ℕ) (k : Basket) (today amount : ℕ) {b : Boo
   unfolding pickedFor
   pick-refused-day {d} f g h q = rw (sym e ∙ not-false b f, sym g ∙ not-true d h) q
 
-pub pick-done : (columns account : List ℕ) (k : Basket) (today amount : ℕ) {b d : Bool} {o : Outcome} → b ≡ legalPick columns account k amount → not b ≡ false
-    → d ≡ legalDays columns today → not d ≡ false → o ≡ picked columns account (eligible k today columns) amount
+pub pick-done : (columns account : List ℕ) (k : Basket) (today amount : ℕ) {b d : Bool} {x : Eligibility} {o : Outcome} → b ≡ legalPick columns account k amount
+    → not b ≡ false → d ≡ legalDays columns today → not d ≡ false → EligibilityFor k today columns x → o ≡ picked columns account (eligibleBy x columns) amount
     → record { code = 0; outcome = o } ≡ pickedFor columns account k today amount
 unfolding pickedFor
-pick-done columns account k today amount {b} {d} e f g h q = rw (sym e ∙ not-false b f, sym g ∙ not-false d h, ← q)
+pick-done columns account k today amount {b} {d} e f g h x q =
+    rw (sym e ∙ not-false b f, sym g ∙ not-false d h, ← picked-eligible columns account amount x, ← q)
 
 module _ (columns position : List ℕ) (exposure : ℕ) {b : Bool} (e : b ≡ legalFree columns position exposure) where
   pub free-refused : {r : FreeAnswer} → not b ≡ true → r ≡ freeRefused outOfRange → r ≡ freedDown columns position exposure

@@ -10,6 +10,11 @@ use native.Mathlib.Omega.{arith}
 use lib.ListN.{getD, set}
 use borrow.Author.Tests.{ne-eqb}
 use Rattle.laws.proofs.Cases.{either}
+use Rattle.baskets.specs.Basket.{eligible}
+use Rattle.baskets.specs.Fresh.{eligibleBy, EligibilityFor}
+use Rattle.baskets.specs.declared.Basket.{Basket}
+use Rattle.baskets.specs.declared.Eligibility.{Eligibility}
+use Rattle.baskets.proofs.Eligible.{eligible-same}
 use Rattle.securities.specs.Security.{securityAt}
 use Rattle.parcels.specs.Lots.{noParcel, parcelToPick}
 use Rattle.picking.specs.Pick.{nothing, butNot, withParcel, parcelFrom, pickedBelow, picked}
@@ -71,3 +76,12 @@ picked-same columns account e f amount (suc n) h =
 pub picked-all : (columns account : List ℕ) (e : ℕ → Bool) (amount : ℕ) → picked columns account (butNot 64 e) amount ≡ picked columns account e amount
 picked-all columns account e amount =
     picked-same columns account (butNot 64 e) e amount 64 (λ i l. rw (ne-eqb i 64 (λ q. omega arith), and-true))
+
+-- eligible by the day of the quote, picked by the price's age
+module _ (columns account : List ℕ) (amount : ℕ) {b : Basket} {today : ℕ} {x : Eligibility} (f : EligibilityFor b today columns x) where
+  pub picked-eligible : picked columns account (eligibleBy x columns) amount ≡ picked columns account (eligible b today columns) amount
+  picked-eligible = picked-same columns account (eligibleBy x columns) (eligible b today columns) amount 64 (eligible-same f)
+
+  pub picked-eligible-but : (omitted : ℕ) → picked columns account (butNot omitted (eligibleBy x columns)) amount ≡ picked columns account (butNot omitted (eligible b today columns)) amount
+  picked-eligible-but omitted =
+      picked-same columns account (butNot omitted (eligibleBy x columns)) (butNot omitted (eligible b today columns)) amount 64 (λ i l. rw (eligible-same f i l))

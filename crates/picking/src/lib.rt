@@ -3,9 +3,9 @@
 ghost use mathlib.Core.Path.{_≡_};
 ghost use Prim.Native.Nat.{_<_, _≤_};
 ghost use lib.ListN.{getD};
-ghost use Rattle.baskets.specs.Basket.{eligible};
+ghost use Rattle.baskets.specs.Fresh.{eligibleBy};
 ghost use Rattle.securities.specs.Position.{nominalsOf, Within};
-ghost use Rattle.securities.specs.Security.{securityAt, AllInBounds, AllQuoted};
+ghost use Rattle.securities.specs.Security.{securityAt, AllInBounds};
 ghost use Rattle.valuation.specs.Value.{value};
 ghost use Rattle.picking.specs.Answers.{pickedFor, freedDown, legalPick, legalDays, legalFree, pickRefused, freeRefused};
 ghost use Rattle.picking.specs.Free.{freed, parcelBack, firstToFree};
@@ -13,6 +13,7 @@ ghost use Rattle.picking.specs.Pick.{butNot, parcelFrom, picked};
 use answers::BAD_DAY;
 use answers::OUT_OF_RANGE;
 use baskets::Basket;
+use baskets::Eligibility;
 use parcels::Parcel;
 
 // A pick's outcome: the nominal picked of each security, the value found in cents, and how many securities.
@@ -44,35 +45,34 @@ pub struct FreeAnswer {
     pub freed: Freed,
 }
 
-// Is the security i eligible for a basket, and not the one left out?
-fn is_allowed(basket: Basket, today: u64, omitted: u64, columns: &[u64; 256], i: usize) -> bool
-    requires { ⌜ (i < 64) × (basket .oldest ≤ 255) × (today ≤ 146096) × AllInBounds (now columns) × AllQuoted (now columns) ⌝ }
-    ensures { λ r. ⌜ r ≡ butNot omitted (eligible basket today (now (columns .entry))) i ⌝ }
+// Is the security i eligible, and not the one left out?
+fn is_allowed(x: Eligibility, omitted: u64, columns: &[u64; 256], i: usize) -> bool
+    requires { ⌜ (i < 64) × AllInBounds (now columns) ⌝ }
+    ensures { λ r. ⌜ r ≡ butNot omitted (eligibleBy x (now (columns .entry))) i ⌝ }
 {
     if i as u64 == omitted {
         return false;
     }
-    baskets::is_eligible(basket, today, columns, i)
+    baskets::is_eligible(x, columns, i)
 }
 
 // What the pick takes from security i. Whether it is eligible is asked last: it costs most.
 fn parcel_from(
     account: &[u64; 64],
     columns: &[u64; 256],
-    basket: Basket,
-    today: u64,
+    x: Eligibility,
     omitted: u64,
     i: usize,
     remains: u64,
 ) -> Parcel
-    requires { ⌜ (i < 64) × (basket .oldest ≤ 255) × (today ≤ 146096) × AllInBounds (now columns) × AllQuoted (now columns) × Within (nominalsOf (now account)) ⌝ }
-    ensures { λ r. ⌜ r ≡ parcelFrom (now (columns .entry)) (now (account .entry)) (butNot omitted (eligible basket today (now (columns .entry)))) i remains ⌝ }
+    requires { ⌜ (i < 64) × AllInBounds (now columns) × Within (nominalsOf (now account)) ⌝ }
+    ensures { λ r. ⌜ r ≡ parcelFrom (now (columns .entry)) (now (account .entry)) (butNot omitted (eligibleBy x (now (columns .entry)))) i remains ⌝ }
 {
     let p = parcels::parcel_to_pick(securities::security_at(columns, i), account[i], remains);
     if p.nominal == 0 {
         return p;
     }
-    if is_allowed(basket, today, omitted, columns, i) {
+    if is_allowed(x, omitted, columns, i) {
         p
     } else {
         Parcel {
@@ -82,24 +82,23 @@ fn parcel_from(
     }
 }
 
-// Picks an amount from an account out of the securities that are eligible for a basket, by rising number; one may be left out.
+// Picks an amount from an account out of the securities that are eligible, by rising number; one may be left out.
 pub fn pick(
     account: &[u64; 64],
     columns: &[u64; 256],
-    basket: Basket,
-    today: u64,
+    x: Eligibility,
     omitted: u64,
     amount: u64,
 ) -> Outcome
-    requires { ⌜ (basket .oldest ≤ 255) × (today ≤ 146096) × AllInBounds (now columns) × AllQuoted (now columns) × Within (nominalsOf (now account)) ⌝ }
-    ensures { λ r. ⌜ r ≡ picked (now (columns .entry)) (now (account .entry)) (butNot omitted (eligible basket today (now (columns .entry)))) amount ⌝ }
+    requires { ⌜ AllInBounds (now columns) × Within (nominalsOf (now account)) ⌝ }
+    ensures { λ r. ⌜ r ≡ picked (now (columns .entry)) (now (account .entry)) (butNot omitted (eligibleBy x (now (columns .entry)))) amount ⌝ }
 {
     let mut nominals = [0u64; 64];
     let mut value: u64 = 0;
     let mut count: u64 = 0;
     let mut i: usize = 0;
     while i < 64 {
-        let p = parcel_from(account, columns, basket, today, omitted, i, amount - value);
+        let p = parcel_from(account, columns, x, omitted, i, amount - value);
         nominals[i] = p.nominal;
         value += p.value;
         count += parcels::smaller(p.nominal, 1);
@@ -112,18 +111,12 @@ pub fn pick(
     }
 }
 
-// Picks an amount from an account out of all securities that are eligible for a basket.
-pub fn pick_for(
-    account: &[u64; 64],
-    columns: &[u64; 256],
-    basket: Basket,
-    today: u64,
-    amount: u64,
-) -> Outcome
-    requires { ⌜ (basket .oldest ≤ 255) × (today ≤ 146096) × AllInBounds (now columns) × AllQuoted (now columns) × Within (nominalsOf (now account)) ⌝ }
-    ensures { λ r. ⌜ r ≡ picked (now (columns .entry)) (now (account .entry)) (eligible basket today (now (columns .entry))) amount ⌝ }
+// Picks an amount from an account out of all securities that are eligible.
+pub fn pick_for(account: &[u64; 64], columns: &[u64; 256], x: Eligibility, amount: u64) -> Outcome
+    requires { ⌜ AllInBounds (now columns) × Within (nominalsOf (now account)) ⌝ }
+    ensures { λ r. ⌜ r ≡ picked (now (columns .entry)) (now (account .entry)) (eligibleBy x (now (columns .entry))) amount ⌝ }
 {
-    pick(account, columns, basket, today, 64, amount)
+    pick(account, columns, x, 64, amount)
 }
 
 // What the free gives back of security i.
@@ -259,7 +252,8 @@ pub extern "C" fn picking_pick(
     if !are_legal_days(columns, today) {
         return refuse_pick(BAD_DAY);
     }
-    let outcome = pick_for(account, columns, basket, today, amount);
+    let x = baskets::eligibility_on(basket, today, columns);
+    let outcome = pick_for(account, columns, x, amount);
     PickAnswer { code: 0, outcome }
 }
 

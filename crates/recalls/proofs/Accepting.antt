@@ -12,10 +12,12 @@ use lib.ListN.{length, getD, take, drop}
 use borrow.Author.Tests.{eq-eqb, ne-eqb, lt-ltb, le-ltb}
 use Rattle.laws.proofs.Cases.{either}
 use Rattle.laws.proofs.Filled.{filled-at}
-use Rattle.baskets.specs.Basket.{eligible}
+use Rattle.baskets.specs.Fresh.{eligibleBy, EligibilityFor}
 use Rattle.baskets.specs.declared.Basket.{Basket}
+use Rattle.baskets.specs.declared.Eligibility.{Eligibility}
 use Rattle.picking.specs.Pick.{picked, butNot}
 use Rattle.picking.specs.declared.Outcome.{Outcome}
+use Rattle.picking.proofs.Picks.{picked-eligible-but}
 use Rattle.securities.specs.Position.{worth, nominalsOf, Within}
 use Rattle.securities.specs.Security.{AllInBounds}
 use Rattle.securities.proofs.Positions.{sum-worth-le}
@@ -118,10 +120,12 @@ module _ {book fields : List ℕ} (k : Recalling book fields) where
   tolerance-in q = rw q (head-facts (state book) (facts-of .head) .tolerance-high)
 
   -- what the code finds is what the definition gives
-  pub substitutes-found : {columns account left : List ℕ} {b : Basket} {day v x n : ℕ} {o : Outcome} → columns ≡ columnsOf (state book) → left ≡ positionLeft (state book) fields
+  pub substitutes-found : {columns account left : List ℕ} {b : Basket} {y : Eligibility} {day v x n : ℕ} {o : Outcome} → columns ≡ columnsOf (state book) → left ≡ positionLeft (state book) fields
       → v ≡ worth columns (nominalsOf left) → x ≡ state book exposures (field fields 1) → n ≡ x - v → account ≡ accountAfter (state book) fields → b ≡ basketOf (state book) (field fields 1)
-      → day ≡ state book today 0 → o ≡ picked columns account (butNot (field fields 2) (eligible b day columns)) n → o ≡ substitutes (state book) fields
-  substitutes-found c l w a m p b d q = rw (m, a, w, l, p, b, d, c) at q ∙ sym (substitutes-on-arrays (state book) fields security-in)
+      → day ≡ state book today 0 → EligibilityFor b day columns y → o ≡ picked columns account (butNot (field fields 2) (eligibleBy y columns)) n → o ≡ substitutes (state book) fields
+  substitutes-found {columns} {account} {n = n} c l w a m p b d f q =
+      rw (m, a, w, l, p, b, d, c) at (q ∙ picked-eligible-but columns account n f (field fields 2))
+      ∙ sym (substitutes-on-arrays (state book) fields security-in)
 
   pub value-found : {columns left position : List ℕ} {o : Outcome} {v : ℕ} → columns ≡ columnsOf (state book) → left ≡ positionLeft (state book) fields → o ≡ substitutes (state book) fields
       → position ≡ added left (o .nominals) → v ≡ worth columns (nominalsOf position) → v ≡ valueOf (substituted (state book) fields) (field fields 1)

@@ -51,7 +51,8 @@ pub fn substitutes(book: &[u8], columns: &[u64; 256], fields: &[u64; 8]) -> Outc
     let account = account_after(book, fields);
     let basket = bonds::basket_of(book, e);
     let today = book::get(book, TODAY, 0);
-    picking::pick(&account, columns, basket, today, fields[2], missing)
+    let x = baskets::eligibility_on(basket, today, columns);
+    picking::pick(&account, columns, x, fields[2], missing)
 }
 
 // Two times 64 nominals, added.

@@ -12,13 +12,12 @@ use lib.ListN.{getD}
 use borrow.Author.Tests.{eq-eqb, ne-eqb, eqb-true, le-leb, lt-leb, leb-true}
 use Rattle.laws.proofs.Cases.{and-left, and-right, or-cases}
 use Rattle.laws.proofs.Least.{all-at}
-use Rattle.calendar.specs.Target.{lastDay, openDay}
-use Rattle.calendar.proofs.OpenDays.{open-within}
+use Rattle.calendar.specs.Target.{openDay}
 use Rattle.valuation.specs.Value.{Bounded, legalPricing}
 use Rattle.valuation.specs.declared.Pricing.{Pricing}
 use Rattle.valuation.proofs.Laws.{legal-bounded}
 use Rattle.securities.specs.declared.Security.{Security}
-use Rattle.securities.specs.Security.{securityAt, InBounds, AllInBounds, AllQuoted, isBlank, isListed, legalSecurity, legalQuote, legalAt, quotedAt, legalSecurities, legalQuotes}
+use Rattle.securities.specs.Security.{securityAt, InBounds, AllInBounds, isBlank, isListed, legalSecurity, legalQuote, legalAt, quotedAt, legalSecurities, legalQuotes}
 use Rattle.securities.specs.Position.{nominalsOf, Within, legalNominalAt, legalNominals}
 
 module _ (s : Security) where
@@ -91,36 +90,10 @@ module _ (s : Security) where
   unfolding legalSecurity
   legal-in-bounds h = ⊎-elim blank-in-bounds listed-in-bounds (or-cases (isBlank s) (isListed s) h)
 
-  blank-quote : isBlank s ≡ true → s .quote ≤ lastDay
-  blank-quote h =
-      let rest = and-right (eqb (s .lot) 0) (eqb (s .pricing .price) 0 && (eqb (s .pricing .haircut) 0 && eqb (s .quote) 0)) h in
-      let more = and-right (eqb (s .pricing .price) 0) (eqb (s .pricing .haircut) 0 && eqb (s .quote) 0) rest in
-      omega (arith, eqb-true (s .quote) 0 (and-right (eqb (s .pricing .haircut) 0) (eqb (s .quote) 0) more))
-
-  listed-lot : isListed s ≡ true → s .lot ≡ 0 → ⊥
-  listed-lot h e = let l = leb-true 1 (s .lot) (and-left (leb 1 (s .lot)) (leb (s .lot) 1000000 && legalPricing (s .pricing)) h) in omega arith
-
-  pub legal-quoted : (today : ℕ) → legalSecurity s ≡ true → legalQuote today s ≡ true → s .quote ≤ lastDay
-  unfolding legalSecurity legalQuote
-  legal-quoted today h q = ⊎-elim
-      blank-quote
-      (λ l. ⊎-elim
-      (λ z. absurd (listed-lot l (eqb-true (s .lot) 0 z)))
-      (λ r. open-within (s .quote) (and-left (openDay (s .quote)) (leb (s .quote) today) r))
-      (or-cases (eqb (s .lot) 0) (openDay (s .quote) && leb (s .quote) today) q))
-      (or-cases (isBlank s) (isListed s) h)
-
 -- the same of all 64
 module _ (columns : List ℕ) where
   pub all-in-bounds : legalSecurities columns ≡ true → AllInBounds columns
   all-in-bounds h = record { in-bounds = λ i l. legal-in-bounds (securityAt columns i) (all-at (legalAt columns) 64 0 h i (omega arith) (omega arith)) }
-
-  pub all-quoted : (today : ℕ) → legalSecurities columns ≡ true → legalQuotes today columns ≡ true → AllQuoted columns
-  all-quoted today h q = record {
-    quoted = λ i l. legal-quoted (securityAt columns i) today
-        (all-at (legalAt columns) 64 0 h i (omega arith) (omega arith))
-        (all-at (quotedAt today columns) 64 0 q i (omega arith) (omega arith));
-  }
 
 pub all-within : (l : List ℕ) → legalNominals l ≡ true → Within (nominalsOf l)
 all-within l h = record {

@@ -5,7 +5,7 @@ use mathlib.Core.List.{List}
 use Prim.Native.Nat.{ℕ, _+_, _≤_, _<_}
 use lib.Dec.{eqb, leb}
 use lib.ListN.{getD}
-use Rattle.calendar.specs.Target.{lastDay, openDay}
+use Rattle.calendar.specs.Target.{openDay}
 use Rattle.valuation.specs.Value.{Bounded, legalPricing}
 use Rattle.laws.specs.Search.{all}
 use Rattle.securities.specs.declared.Security as declared
@@ -31,10 +31,6 @@ pub record InBounds (s : declared.Security) : Type 0 where
 -- all 64 of them
 pub record AllInBounds (columns : List ℕ) : Type 0 where
   pub in-bounds : (i : ℕ) → i < 64 → InBounds (securityAt columns i)
-
--- what eligibility counts on besides: quote days that the calendar has
-pub record AllQuoted (columns : List ℕ) : Type 0 where
-  pub quoted : (i : ℕ) → i < 64 → securityAt columns i .quote ≤ lastDay
 
 -- a host's numbers of a security that is not set up: nothing but zeros
 abbrev pub isBlank : declared.Security → Bool

@@ -8,13 +8,14 @@ use native.Mathlib.Omega.{arith}
 use lib.Dec.{eqb}
 use borrow.Author.Tests.{eq-eqb, ne-eqb, eqb-false}
 use Rattle.book.specs.Layout.{kinds}
-use Rattle.book.specs.State.{State, columnsOf}
+use Rattle.book.specs.State.{State}
 use Rattle.rules.specs.Settlement.{Settling, returnAmount, fopAmount, returnSettled, fopSettled, settleReturn, settleFop, settleAll, settlement, allSettled, nextDue, orderOf}
 use Rattle.laws.proofs.Cases.{either}
 use Rattle.facts.proofs.Keeps.{Good}
 use Rattle.totals.specs.declared.Totals.{Totals}
 use Rattle.totals.specs.Totals.{totalsOf}
-use Rattle.bonds.proofs.Ready.{columns-same}
+use Rattle.bonds.specs.Fresh.{SamePrices}
+use Rattle.bonds.proofs.Fresh.{same-start, same-prices, same-then}
 use Rattle.settlement_laws.proofs.Finding.{due-row}
 use Rattle.settlement_laws.proofs.Settling.{return-good, fop-good}
 use Rattle.settlement.specs.Pairs.{PairOf, returnLeft, fopLeft}
@@ -59,7 +60,7 @@ due-pair s kind last q n =
     let d = due-row s kind last (λ z. n (q ∙ z)) in
     rw q (record { below = d .below; used = d .used; paired = d .paired; kind-is = d .same-kind })
 
--- the state that one pair leaves: good, with the same securities
+-- the state that one pair leaves: good, with the same prices
 module _ (s : State) (kind i : ℕ) (g : Good s) (p : PairOf s kind i) where
   good-return : kind ≡ 7 → Good (returnLeft s i)
   good-return k =
@@ -75,20 +76,20 @@ module _ (s : State) (kind i : ℕ) (g : Good s) (p : PairOf s kind i) where
       (λ e. rw e (fop-good s i g (p .below) (p .used) (p .paired) (eq-eqb (s kinds i) 6 (fop-kind g p k .kind-is)) (eqb-false (fopAmount s i) 0 e)))
       (either (eqb (fopAmount s i) 0))
 
-  columns-return : columnsOf (returnLeft s i) ≡ columnsOf s
+  prices-return : SamePrices s (returnLeft s i)
   unfolding returnSettled
-  columns-return =
+  prices-return =
       ⊎-elim
-      (λ e. rw e)
-      (λ e. rw e (columns-same s (returnSettled s i) (λ j. refl) (λ j. refl) (λ j. refl) (λ j. refl)))
+      (λ e. rw e (same-start s))
+      (λ e. rw e (same-prices s (returnSettled s i) (λ j. refl) (λ j. refl) (λ j. refl) (λ j. refl) refl (λ b. refl)))
       (either (eqb (returnAmount s i) 0))
 
-  columns-fop : columnsOf (fopLeft s i) ≡ columnsOf s
+  prices-fop : SamePrices s (fopLeft s i)
   unfolding fopSettled
-  columns-fop =
+  prices-fop =
       ⊎-elim
-      (λ e. rw e)
-      (λ e. rw e (columns-same s (fopSettled s i) (λ j. refl) (λ j. refl) (λ j. refl) (λ j. refl)))
+      (λ e. rw e (same-start s))
+      (λ e. rw e (same-prices s (fopSettled s i) (λ j. refl) (λ j. refl) (λ j. refl) (λ j. refl) refl (λ b. refl)))
       (either (eqb (fopAmount s i) 0))
 
   return-left : (t : Totals) → settleReturn (begun s t) i .state ≡ returnLeft s i
@@ -107,11 +108,11 @@ module _ (s : State) (kind i : ℕ) (g : Good s) (p : PairOf s kind i) where
           | no k ↦ rw (a .state, ne-eqb kind 7 k, fop-left t) (good-fop k)
         ]
 
-    pub pair-columns : columnsOf u ≡ columnsOf s
-    pair-columns =
+    pub pair-prices : SamePrices s u
+    pair-prices =
         elim (ℕ-discrete kind 7) [
-          | yes k ↦ rw (a .state, eq-eqb kind 7 k, return-left t) columns-return
-          | no k ↦ rw (a .state, ne-eqb kind 7 k, fop-left t) columns-fop
+          | yes k ↦ rw (a .state, eq-eqb kind 7 k, return-left t) prices-return
+          | no k ↦ rw (a .state, ne-eqb kind 7 k, fop-left t) prices-fop
         ]
 
 -- what is the same but for the events goes on the same
@@ -163,21 +164,21 @@ within-room l m a = record { fops = omega arith; returns = omega arith; cents = 
 -- on the way, with n pairs tried
 pub record Underway (kind : ℕ) (s₀ : State) (t₀ : Totals) (n last : ℕ) (s : State) (t : Totals) : Type 0 where
   pub good : Good s
-  pub columns : columnsOf s ≡ columnsOf s₀
+  pub prices : SamePrices s₀ s
   pub within : Within t₀ n t
   pub leads : Alike (settleAll kind (settleOf kind) (256 - n) last (begun s t)) (allOf kind (begun s₀ t₀))
 
 pub underway-starts : (kind : ℕ) (s : State) (t : Totals) → Good s → Underway kind s t 0 0 s t
 underway-starts kind s t g = record {
   good = g;
-  columns = refl;
+  prices = same-start s;
   within = record { fops = omega arith; returns = omega arith; cents = omega arith };
   leads = record { state = refl; fops = refl; returns = refl; cents = refl };
 }
 
 module _ {kind : ℕ} {s₀ : State} {t₀ : Totals} {n last : ℕ} {s : State} {t : Totals} (w : Underway kind s₀ t₀ n last s t) where
   passed : n ≤ 256 → Alike (begun s t) (settleAll kind (settleOf kind) (256 - n) last (begun s t)) → Passed kind s₀ t₀ s t
-  passed l a = record { reached = alike-then a (w .leads); good = w .good; columns = w .columns; within = within-all l (w .within) }
+  passed l a = record { reached = alike-then a (w .leads); good = w .good; prices = w .prices; within = within-all l (w .within) }
 
   -- all turns are taken
   pub underway-ends : n ≤ 256 → 256 ≤ n → Passed kind s₀ t₀ s t
@@ -205,7 +206,7 @@ module _ {kind : ℕ} {s₀ : State} {t₀ : Totals} {n last : ℕ} {s : State} 
         rw (one-more, ne-eqb (nextDue s kind last) 256 (λ e. z (q ∙ e)), ← q, lq) (alike-all kind (256 - (n + 1)) (orderOf s i) a) in
         record {
           good = pair-good s kind i (w .good) pair t a;
-          columns = pair-columns s kind i (w .good) pair t a ∙ w .columns;
+          prices = same-then (w .prices) (pair-prices s kind i (w .good) pair t a);
           within = within-next (w .within) m;
           leads = alike-then step (w .leads);
         }

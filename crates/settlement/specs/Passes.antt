@@ -6,7 +6,8 @@ use mathlib.Core.Bool.{cond}
 use mathlib.Core.List.{[]}
 use Prim.Native.Nat.{ℕ, _+_, _*_, _≤_}
 use lib.Dec.{eqb}
-use Rattle.book.specs.State.{State, columnsOf}
+use Rattle.bonds.specs.Fresh.{SamePrices}
+use Rattle.book.specs.State.{State}
 use Rattle.facts.proofs.Keeps.{Good}
 use Rattle.rules.specs.Settlement.{Settling, settleReturn, settleFop, settleAll}
 use Rattle.totals.specs.declared.Totals.{Totals}
@@ -41,9 +42,9 @@ pub record Within (before : Totals) (n : ℕ) (after : Totals) : Type 0 where
   pub returns : after .b ≤ before .b + n
   pub cents : after .m ≤ before .m + 1000000000000 * n
 
--- what settling all pairs of a kind leaves: the definition's state and totals, a good book, and the securities as they were
+-- what settling all pairs of a kind leaves: the definition's state and totals, a good book, and the prices as they were
 pub record Passed (kind : ℕ) (s : State) (t : Totals) (after : State) (total : Totals) : Type 0 where
   pub reached : Alike (begun after total) (allOf kind (begun s t))
   pub good : Good after
-  pub columns : columnsOf after ≡ columnsOf s
+  pub prices : SamePrices s after
   pub within : Within t 256 total

@@ -3,6 +3,7 @@ ghost use mathlib.Core.Path.{_≡_};
 ghost use mathlib.Core.Bool.{true};
 ghost use Prim.Native.Nat.{_<_, _≤_};
 ghost use lib.ListN.{length};
+ghost use Rattle.bonds.specs.Fresh.{FreshBaskets};
 ghost use Rattle.book.specs.Layout.{settleds, amounts, exposures, bookLength};
 ghost use Rattle.book.specs.State.{state, put, columnsOf};
 ghost use Rattle.facts.proofs.Keeps.{Good};
@@ -174,8 +175,8 @@ fn amount_for(book: &[u8], i: usize, rest: u64, found: u64) -> u64
 }
 
 // Settles a FOP: Picks its rest, and the exposure grows by what settles. The cents settled.
-fn settle_fop(book: &mut [u8], columns: &[u64; 256], i: usize) -> u64
-    requires { ⌜ (length (now book) ≡ bookLength) × Good (state (now book)) × PairOf (state (now book)) 6 i × (now columns ≡ columnsOf (state (now book))) ⌝ }
+fn settle_fop(book: &mut [u8], columns: &[u64; 256], since: &[u64; 16], i: usize) -> u64
+    requires { ⌜ (length (now book) ≡ bookLength) × Good (state (now book)) × PairOf (state (now book)) 6 i × (now columns ≡ columnsOf (state (now book))) × FreshBaskets (state (now book)) (now since) ⌝ }
     ensures { λ r. ⌜ (r ≡ fopAmount (state (now (book .entry))) i) × (state (now (book .exit)) ≡ fopLeft (state (now (book .entry))) i) ⌝ }
 {
     let e = exposure_of_fop(book, i);
@@ -184,7 +185,7 @@ fn settle_fop(book: &mut [u8], columns: &[u64; 256], i: usize) -> u64
     if 10000000000000 < exposure + rest {
         return 0;
     }
-    let outcome = bonds::pick_for(book, columns, e, rest);
+    let outcome = bonds::pick_for(book, columns, since, e, rest);
     let x = amount_for(book, i, rest, outcome.value);
     if x == 0 {
         return 0;
@@ -196,8 +197,15 @@ fn settle_fop(book: &mut [u8], columns: &[u64; 256], i: usize) -> u64
 }
 
 // Settles one pair, and counts it where something settled.
-fn settle_pair(book: &mut [u8], columns: &[u64; 256], kind: u64, i: usize, t: Totals) -> Totals
-    requires { ⌜ (length (now book) ≡ bookLength) × Good (state (now book)) × PairOf (state (now book)) kind i × (now columns ≡ columnsOf (state (now book))) × Room 512 t ⌝ }
+fn settle_pair(
+    book: &mut [u8],
+    columns: &[u64; 256],
+    since: &[u64; 16],
+    kind: u64,
+    i: usize,
+    t: Totals,
+) -> Totals
+    requires { ⌜ (length (now book) ≡ bookLength) × Good (state (now book)) × PairOf (state (now book)) kind i × (now columns ≡ columnsOf (state (now book))) × Room 512 t × FreshBaskets (state (now book)) (now since) ⌝ }
     ensures { λ r. ⌜ Alike (begun (state (now (book .exit))) r) (settleOf kind (begun (state (now (book .entry))) t) i) × Within t 1 r ⌝ }
 {
     if kind == 7 {
@@ -211,7 +219,7 @@ fn settle_pair(book: &mut [u8], columns: &[u64; 256], kind: u64, i: usize, t: To
             m: t.m + x,
         };
     }
-    let x = settle_fop(book, columns, i);
+    let x = settle_fop(book, columns, since, i);
     if x == 0 {
         return t;
     }
@@ -223,8 +231,14 @@ fn settle_pair(book: &mut [u8], columns: &[u64; 256], kind: u64, i: usize, t: To
 }
 
 // Settles the pairs of a kind in their order, each once.
-fn settle_pairs(book: &mut [u8], columns: &[u64; 256], kind: u64, start: Totals) -> Totals
-    requires { ⌜ (length (now book) ≡ bookLength) × Good (state (now book)) × (now columns ≡ columnsOf (state (now book))) × Room 256 start ⌝ }
+fn settle_pairs(
+    book: &mut [u8],
+    columns: &[u64; 256],
+    since: &[u64; 16],
+    kind: u64,
+    start: Totals,
+) -> Totals
+    requires { ⌜ (length (now book) ≡ bookLength) × Good (state (now book)) × (now columns ≡ columnsOf (state (now book))) × Room 256 start × FreshBaskets (state (now book)) (now since) ⌝ }
     ensures { λ r. ⌜ Passed kind (state (now (book .entry))) start (state (now (book .exit))) r ⌝ }
 {
     let mut total = start;
@@ -236,7 +250,7 @@ fn settle_pairs(book: &mut [u8], columns: &[u64; 256], kind: u64, start: Totals)
             return total;
         }
         last = order_of(book, i);
-        total = settle_pair(book, columns, kind, i, total);
+        total = settle_pair(book, columns, since, kind, i, total);
         n += 1;
     }
     total
@@ -248,7 +262,8 @@ pub fn settle(book: &mut [u8]) -> Totals
     ensures { λ r. ⌜ (r ≡ totalsOf (settlement (state (now (book .entry))))) × (state (now (book .exit)) ≡ settlement (state (now (book .entry))) .state) ⌝ }
 {
     let columns = book::columns(book);
+    let since = bonds::fresh_since(book, &columns);
     let none = Totals { a: 0, b: 0, m: 0 };
-    let returns = settle_pairs(book, &columns, 7, none);
-    settle_pairs(book, &columns, 6, returns)
+    let returns = settle_pairs(book, &columns, &since, 7, none);
+    settle_pairs(book, &columns, &since, 6, returns)
 }

@@ -15,14 +15,13 @@ security-at-requires c κs = search needs
 is-qualified-requires : tie.Need-is-qualified-requires
 is-qualified-requires c κs =
     let s = c .before .before .before in
-    let i = s .args .i in
-    rw (c .security-at .ensures) (s .pre .1, s .pre .2, s .pre .4 .quoted i (s .pre .0), s .pre .3 .in-bounds i (s .pre .0))
+    rw (c .security-at .ensures) (s .pre .1 .in-bounds (s .args .i) (s .pre .0))
 
 returns : tie.Need-returns
 returns c =
     let q = c .before .before .before .has-bit in
     let s = c .before .before .before .before in
-    in-map (s .args .b) (s .args .today) (now (s .args .columns)) (s .args .i) (q .ensures) (c .before .before .if1 .taken) (rw (← c .before .security-at .ensures) (c .is-qualified .ensures))
+    in-map (s .args .x) (now (s .args .columns)) (s .args .i) (q .ensures) (c .before .before .if1 .taken) (rw (← c .before .security-at .ensures) (c .is-qualified .ensures))
 
 returns-2 : tie.Need-returns-2
 returns-2 c = search not-in-map

@@ -1,6 +1,6 @@
 -- `baskets::is_qualified` meets its contract.
 -- Assumes nothing.
-use Rattle.baskets.proofs.Eligible.{not-set-up, worthless, by-age}
+use Rattle.baskets.proofs.Eligible.{not-set-up, worthless, by-quote}
 use borrow.Author.Needs.{needs}
 use Rattle.baskets.proofs.is_qualified.Statement.{statement}
 use Rattle.baskets.proofs.is_qualified.Tie as tie
@@ -14,12 +14,8 @@ value-of-requires c κs = search needs
 returns-2 : tie.Need-returns-2
 returns-2 c = search worthless
 
-is-fresh-requires : tie.Need-is-fresh-requires
-is-fresh-requires c κs = search needs
-
 returns-3 : tie.Need-returns-3
-returns-3 c = search by-age
+returns-3 c = search by-quote
 
 pub is-qualified-spec : {M : Type 1} → statement M
-is-qualified-spec =
-    tie.close (tie.spec returns value-of-requires returns-2 is-fresh-requires returns-3)
+is-qualified-spec = tie.close (tie.spec returns value-of-requires returns-2 returns-3)

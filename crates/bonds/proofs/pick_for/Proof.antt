@@ -14,20 +14,16 @@ mul-row-at c = search needs
 row-at-requires : tie.Need-row-at-requires
 row-at-requires c κs = search needs
 
-basket-of-requires : tie.Need-basket-of-requires
-basket-of-requires c κs = search needs
-
-get-requires-2 : tie.Need-get-requires-2
-get-requires-2 c κs = search needs
+eligibility-of-requires : tie.Need-eligibility-of-requires
+eligibility-of-requires c κs = search needs
 
 pick-for-requires : tie.Need-pick-for-requires
 pick-for-requires c κs =
-    let basket = c .before .before in
-    let row = basket .before in
+    let row = c .before .before in
     let get = row .before in
     let s = get .before .before in
     let p = s .pre .1 in
-    (rw (basket .basket-of .ensures) (p .age), rw (c .get2 .ensures) (p .day), rw (s .pre .2) (p .bounded), rw (s .pre .2) (p .quoted), rw (row .row-at .ensures, get .get .ensures) (p .within))
+    (rw (s .pre .2) (p .bounded), rw (row .row-at .ensures, get .get .ensures) (p .within))
 
 returns : tie.Need-returns
 returns c = search picked-for
@@ -39,7 +35,6 @@ pick-for-spec =
     get-requires
     mul-row-at
     row-at-requires
-    basket-of-requires
-    get-requires-2
+    eligibility-of-requires
     pick-for-requires
     returns)

@@ -11,10 +11,10 @@ use Rattle.mark_steps.proofs.ineligible.Statement.{statement}
 use Rattle.mark_steps.proofs.ineligible.Tie as tie
 
 abbrev Inv-loop : tie.InvT-loop
-Inv-loop position columns basket today nominals₀ i₀ nominals i = (i ≤ 64) × (nominals ≡ filled (ineligibleIn position columns basket today) 64 i)
+Inv-loop position columns x nominals₀ i₀ nominals i = (i ≤ 64) × (nominals ≡ filled (ineligibleIn position columns x) 64 i)
 
 abbrev μ-loop : tie.MeasureT-loop
-μ-loop position columns basket today nominals₀ i₀ nominals i = 64 - i
+μ-loop position columns x nominals₀ i₀ nominals i = 64 - i
 
 loop-holds : tie.Need-loop-holds Inv-loop μ-loop
 loop-holds c = (omega arith, search filled-first)

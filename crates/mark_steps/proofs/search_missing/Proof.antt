@@ -22,7 +22,7 @@ pick-for-requires : tie.Need-pick-for-requires
 pick-for-requires c κs =
     let s = c .before .before .before in
     let m = s .pre .0 in
-    (m .long, good-pickable _ _ (good-of m (λ i. c .before .before .slice-known .given i .fits)) (s .pre .1) (lacking-used (state (s .args .book .now)) (s .args .e) (s .pre .2) (c .before .if1 .left)), m .securities)
+    (m .long, good-pickable _ _ (good-of m (λ i. c .before .before .slice-known .given i .fits)) (s .pre .1) (lacking-used (state (s .args .book .now)) (s .args .e) (s .pre .2) (c .before .if1 .left)), m .securities, s .pre .3)
 
 is-empty-requires : tie.Need-is-empty-requires
 is-empty-requires c κs = search needs

@@ -9,23 +9,25 @@ use Rattle.book.specs.State.{state}
 use Rattle.mark_steps.specs.Stepped.{bit}
 use Rattle.mark_steps.proofs.Passable.{first-pass}
 use Rattle.rules.specs.Marking.{onExposures, moved, ineligibleBack}
-use Rattle.marking.proofs.Passing.{On, on-start, on-step, on-end, on-flag}
+use Rattle.marking.proofs.Passing.{On, on-start, on-step, on-end, on-flag, passed-fresh}
 use borrow.Author.Needs.{needs}
 use Rattle.marking.proofs.give_all_ineligible.Statement.{statement}
 use Rattle.marking.proofs.give_all_ineligible.Tie as tie
 
 abbrev Inv-loop : tie.InvT-loop
-Inv-loop book₀ columns gave₀ e₀ book gave e =
+Inv-loop book₀ columns since gave₀ e₀ book gave e =
     (e ≤ 64) × On ineligibleBack columns book₀ book e × (gave ≡ filled (λ j. bit (moved (state book₀) (onExposures ineligibleBack 64 (state book₀)) j)) 64 e)
 
 abbrev μ-loop : tie.MeasureT-loop
-μ-loop book₀ columns gave₀ e₀ book gave e = 64 - e
+μ-loop book₀ columns since gave₀ e₀ book gave e = 64 - e
 
 loop-holds : tie.Need-loop-holds Inv-loop μ-loop
-loop-holds c = (omega arith, on-start (c .before .pre), filled-first _ 64)
+loop-holds c = (omega arith, on-start (c .before .pre .0), filled-first _ 64)
 
 give-ineligible-requires : tie.Need-give-ineligible-requires Inv-loop μ-loop
-give-ineligible-requires c κs = (c .before .before .loop .inv .1 .whole, omega arith)
+give-ineligible-requires c κs =
+    let l = c .before .before in
+    (l .loop .inv .1 .whole, omega arith, passed-fresh first-pass (l .loop .e) (l .loop .inv .1 .reached) (l .before .before .pre .1))
 
 mul-gave : tie.Need-mul-gave Inv-loop μ-loop
 mul-gave c = search needs

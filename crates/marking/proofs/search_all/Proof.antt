@@ -12,7 +12,7 @@ use Rattle.mark_steps.specs.Stepped.{bit}
 use Rattle.mark_steps.proofs.Passable.{third-pass}
 use Rattle.rules.specs.Marking.{onExposures, moved, shortfallIn, missingOf}
 use Rattle.marking.proofs.Counts.{sum-none, sum-more, bit-le}
-use Rattle.marking.proofs.Passing.{On, on-start, on-step, on-end, on-before, on-flag, on-missing, missing-le}
+use Rattle.marking.proofs.Passing.{On, on-start, on-step, on-end, on-before, on-flag, on-missing, missing-le, passed-fresh}
 use borrow.Author.Needs.{needs}
 use Rattle.marking.proofs.search_all.Statement.{statement}
 use Rattle.marking.proofs.search_all.Tie as tie
@@ -25,7 +25,7 @@ abbrev takes : State → ℕ → Bool
 takes s e = moved s (after s) e
 
 abbrev Inv-loop : tie.InvT-loop
-Inv-loop book₀ columns missing count₀ after₀ e₀ book count lacks e =
+Inv-loop book₀ columns since missing count₀ after₀ e₀ book count lacks e =
     (e ≤ 64)
     × On shortfallIn columns book₀ book e
     × (count ≡ sum (λ j. bit (takes (state book₀) j)) e)
@@ -34,7 +34,7 @@ Inv-loop book₀ columns missing count₀ after₀ e₀ book count lacks e =
     × (lacks ≤ 10000000000000 * e)
 
 abbrev μ-loop : tie.MeasureT-loop
-μ-loop book₀ columns missing count₀ after₀ e₀ book count lacks e = 64 - e
+μ-loop book₀ columns since missing count₀ after₀ e₀ book count lacks e = 64 - e
 
 loop-holds : tie.Need-loop-holds Inv-loop μ-loop
 loop-holds c = (omega arith, on-start (c .before .pre .0), sum-none _, omega arith, sum-none _, omega arith)
@@ -50,7 +50,7 @@ search-missing-requires c κs =
     let l = c .before .before .before in
     let s = l .before .before in
     let below : l .loop .e < 64 = omega arith in
-    (l .loop .inv .1 .whole, below, rw (s .pre .1) (filled-at (missingOf (state (s .args .book .now))) 64 64 (l .loop .e) (le-refl 64) below) ∙ on-before (l .loop .inv .1) third-pass)
+    (l .loop .inv .1 .whole, below, rw (s .pre .1) (filled-at (missingOf (state (s .args .book .now))) 64 64 (l .loop .e) (le-refl 64) below) ∙ on-before (l .loop .inv .1) third-pass, passed-fresh third-pass (l .loop .e) (l .loop .inv .1 .reached) (s .pre .2))
 
 -- one exposure counts once at most, and no more than an amount is missing of it
 module _ (c : tie.After-struct-known Inv-loop μ-loop) where

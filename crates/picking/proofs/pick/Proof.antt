@@ -4,7 +4,7 @@ use mathlib.Core.Path.{_≡_, refl, ap}
 use Prim.Native.Nat.{ℕ, _+_, _-_, _≤_, _<_, min}
 use native.Mathlib.Omega.{arith}
 use denote.Ref.{now}
-use Rattle.baskets.specs.Basket.{eligible}
+use Rattle.baskets.specs.Fresh.{eligibleBy}
 use Rattle.picking.specs.Pick.{butNot, pickedBelow}
 use Rattle.picking.specs.declared.Outcome.{Outcome}
 use Rattle.picking.proofs.Picks.{parcel-worth, picked-value, picked-count, picked-next}
@@ -13,21 +13,21 @@ use Rattle.picking.proofs.pick.Statement.{statement}
 use Rattle.picking.proofs.pick.Tie as tie
 
 abbrev Inv-loop : tie.InvT-loop
-Inv-loop account columns basket today omitted amount nominals₀ value₀ count₀ i₀ nominals value count i = (i ≤ 64) × (_≡_ {A = Outcome} (record { nominals = nominals; value = value; count = count }) (pickedBelow columns account (butNot omitted (eligible basket today columns)) amount i))
+Inv-loop account columns x omitted amount nominals₀ value₀ count₀ i₀ nominals value count i = (i ≤ 64) × (_≡_ {A = Outcome} (record { nominals = nominals; value = value; count = count }) (pickedBelow columns account (butNot omitted (eligibleBy x columns)) amount i))
 
 abbrev μ-loop : tie.MeasureT-loop
-μ-loop account columns basket today omitted amount nominals₀ value₀ count₀ i₀ nominals value count i = 64 - i
+μ-loop account columns x omitted amount nominals₀ value₀ count₀ i₀ nominals value count i = 64 - i
 
 -- what the invariant says of the value and the count
 found : (l : tie.At-loop Inv-loop μ-loop) → l .loop .value ≤ l .before .args .amount
 found l =
     let a = l .before .args in
-    rw (ap (λ (o : Outcome). o .value) (l .loop .inv .1)) (picked-value (now (a .columns)) (now (a .account)) (butNot (a .omitted) (eligible (a .basket) (a .today) (now (a .columns)))) (a .amount) (l .loop .i))
+    rw (ap (λ (o : Outcome). o .value) (l .loop .inv .1)) (picked-value (now (a .columns)) (now (a .account)) (butNot (a .omitted) (eligibleBy (a .x) (now (a .columns)))) (a .amount) (l .loop .i))
 
 counted : (l : tie.At-loop Inv-loop μ-loop) → l .loop .count ≤ l .loop .i
 counted l =
     let a = l .before .args in
-    rw (ap (λ (o : Outcome). o .count) (l .loop .inv .1)) (picked-count (now (a .columns)) (now (a .account)) (butNot (a .omitted) (eligible (a .basket) (a .today) (now (a .columns)))) (a .amount) (l .loop .i))
+    rw (ap (λ (o : Outcome). o .count) (l .loop .inv .1)) (picked-count (now (a .columns)) (now (a .account)) (butNot (a .omitted) (eligibleBy (a .x) (now (a .columns)))) (a .amount) (l .loop .i))
 
 loop-holds : tie.Need-loop-holds Inv-loop μ-loop
 unfolding pickedBelow
@@ -49,7 +49,7 @@ add-value : tie.Need-add-value Inv-loop μ-loop
 add-value c =
     let l = c .before .before .before in
     let a = l .before .args in
-    let w = parcel-worth (now (a .columns)) (now (a .account)) (butNot (a .omitted) (eligible (a .basket) (a .today) (now (a .columns)))) (l .loop .i) (a .amount - l .loop .value) in
+    let w = parcel-worth (now (a .columns)) (now (a .account)) (butNot (a .omitted) (eligibleBy (a .x) (now (a .columns)))) (l .loop .i) (a .amount - l .loop .value) in
     omega (arith, found l, rw (← c .before .parcel-from .ensures) at w)
 
 smaller-requires : tie.Need-smaller-requires Inv-loop μ-loop
@@ -68,7 +68,7 @@ loop-again : tie.Need-loop-again Inv-loop μ-loop
 loop-again c =
     let l = c .before .before .before .before in
     let a = l .before .args in
-    (omega arith, rw (c .smaller .ensures) (picked-next (now (a .columns)) (now (a .account)) (butNot (a .omitted) (eligible (a .basket) (a .today) (now (a .columns)))) (a .amount) (l .loop .i) (l .loop .inv .1) (c .before .before .parcel-from .ensures)))
+    (omega arith, rw (c .smaller .ensures) (picked-next (now (a .columns)) (now (a .account)) (butNot (a .omitted) (eligibleBy (a .x) (now (a .columns)))) (a .amount) (l .loop .i) (l .loop .inv .1) (c .before .before .parcel-from .ensures)))
 
 returns : tie.Need-returns Inv-loop μ-loop
 returns c =

@@ -2,7 +2,7 @@
 -- Assumes nothing.
 use mathlib.Core.Path.{_∙_}
 use denote.Ref.{now}
-use Rattle.baskets.specs.Basket.{eligible}
+use Rattle.baskets.specs.Fresh.{eligibleBy}
 use Rattle.picking.proofs.Picks.{picked-all}
 use borrow.Author.Needs.{needs}
 use Rattle.picking.proofs.pick_for.Statement.{statement}
@@ -14,7 +14,7 @@ pick-requires c κs = search needs
 returns : tie.Need-returns
 returns c =
     let a = c .before .args in
-    c .pick .ensures ∙ picked-all (now (a .columns)) (now (a .account)) (eligible (a .basket) (a .today) (now (a .columns))) (a .amount)
+    c .pick .ensures ∙ picked-all (now (a .columns)) (now (a .account)) (eligibleBy (a .x) (now (a .columns))) (a .amount)
 
 pub pick-for-spec : {M : Type 1} → statement M
 pick-for-spec = tie.close (tie.spec pick-requires returns)

@@ -83,7 +83,7 @@ pick-for-requires : tie.Need-pick-for-requires
 pick-for-requires c κs =
     let e = c .before .before .before .before .before .before in
     let s = e .before .before .before in
-    (search needs, good-pickable (state (s .args .book .now)) (e .exposure-of-fop .result) (s .pre .1) (target-below e) (target-used e), s .pre .3)
+    (search needs, good-pickable (state (s .args .book .now)) (e .exposure-of-fop .result) (s .pre .1) (target-below e) (target-used e), s .pre .3, s .pre .4)
 
 amount-for-requires : tie.Need-amount-for-requires
 amount-for-requires c κs =

@@ -33,11 +33,11 @@ returns c =
     let s = done .before .before .before .before in
     (return-uncounted (state (s .args .book .now)) (s .args .t) (s .args .i) (done .before .before .if1 .taken) (done .settle-return .ensures .0) (done .settle-return .ensures .1) (c .if2 .taken), record { fops = omega arith; returns = omega arith; cents = omega arith })
 
-add-t12 : tie.Need-add-t12
-add-t12 c = search needs
-
 add-t13 : tie.Need-add-t13
-add-t13 c = omega (arith, return-small (c .before .before .before .before .before))
+add-t13 c = search needs
+
+add-t14 : tie.Need-add-t14
+add-t14 c = omega (arith, return-small (c .before .before .before .before .before))
 
 same-length-2 : tie.Need-same-length-2
 same-length-2 c = search needs
@@ -52,7 +52,7 @@ returns-2 c =
 settle-fop-requires : tie.Need-settle-fop-requires
 settle-fop-requires c κs =
     let s = c .before .before .before in
-    (search needs, s .pre .1, fop-kind (s .pre .1) (s .pre .2) (c .before .if1 .left), s .pre .3)
+    (search needs, s .pre .1, fop-kind (s .pre .1) (s .pre .2) (c .before .if1 .left), s .pre .3, s .pre .5)
 
 same-length-3 : tie.Need-same-length-3
 same-length-3 c = search needs
@@ -63,11 +63,11 @@ returns-3 c =
     let s = done .before .before .before .before in
     (fop-uncounted (state (s .args .book .now)) (s .args .t) (s .args .i) (done .before .before .if1 .left) (done .settle-fop .ensures .0) (done .settle-fop .ensures .1) (c .if3 .taken), record { fops = omega arith; returns = omega arith; cents = omega arith })
 
-add-t16 : tie.Need-add-t16
-add-t16 c = search needs
-
 add-t17 : tie.Need-add-t17
-add-t17 c = omega (arith, fop-small (c .before .before .before .before .before))
+add-t17 c = search needs
+
+add-t18 : tie.Need-add-t18
+add-t18 c = omega (arith, fop-small (c .before .before .before .before .before))
 
 same-length-4 : tie.Need-same-length-4
 same-length-4 c = search needs
@@ -86,14 +86,14 @@ settle-pair-spec =
     settle-return-requires
     same-length
     returns
-    add-t12
     add-t13
+    add-t14
     same-length-2
     returns-2
     settle-fop-requires
     same-length-3
     returns-3
-    add-t16
     add-t17
+    add-t18
     same-length-4
     returns-4)

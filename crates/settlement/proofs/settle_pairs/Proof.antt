@@ -4,6 +4,7 @@ use mathlib.Core.Path.{sym, _∙_, _≡_}
 use Prim.Native.Nat.{_-_, _≤_}
 use native.Mathlib.Omega.{arith}
 use lib.ListN.{length}
+use Rattle.bonds.proofs.Fresh.{fresh-same}
 use Rattle.book.specs.Layout.{bookLength}
 use Rattle.book.specs.State.{state}
 use Rattle.settlement.proofs.Passes.{within-room, Underway, underway-starts, underway-next, underway-done, underway-ends, due-pair}
@@ -12,10 +13,10 @@ use Rattle.settlement.proofs.settle_pairs.Statement.{statement}
 use Rattle.settlement.proofs.settle_pairs.Tie as tie
 
 abbrev Inv-loop : tie.InvT-loop
-Inv-loop book₀ columns kind total₀ last₀ n₀ book total last n = (n ≤ 256) × (length book ≡ bookLength) × Underway kind (state book₀) total₀ n last (state book) total
+Inv-loop book₀ columns since kind total₀ last₀ n₀ book total last n = (n ≤ 256) × (length book ≡ bookLength) × Underway kind (state book₀) total₀ n last (state book) total
 
 abbrev μ-loop : tie.MeasureT-loop
-μ-loop book₀ columns kind total₀ last₀ n₀ book total last n = 256 - n
+μ-loop book₀ columns since kind total₀ last₀ n₀ book total last n = 256 - n
 
 loop-holds : tie.Need-loop-holds Inv-loop μ-loop
 loop-holds c = (omega arith, search needs, underway-starts _ _ _ (c .before .pre .1))
@@ -40,7 +41,7 @@ settle-pair-requires c κs =
     let l = next .before .before .before in
     let s = l .before .before in
     let w = l .loop .inv .2 in
-    (search needs, w .good, due-pair (state (l .loop .book)) (s .args .kind) (l .loop .last) (next .next-due .ensures .0) (c .before .before .before .if1 .left), s .pre .2 ∙ sym (w .columns), within-room (l .loop .inv .0) (s .pre .3) (w .within))
+    (search needs, w .good, due-pair (state (l .loop .book)) (s .args .kind) (l .loop .last) (next .next-due .ensures .0) (c .before .before .before .if1 .left), s .pre .2 ∙ sym (w .prices .columns), within-room (l .loop .inv .0) (s .pre .3) (w .within), fresh-same (w .prices) (s .pre .4))
 
 add-n : tie.Need-add-n Inv-loop μ-loop
 add-n c = search needs

@@ -3,7 +3,7 @@
 use mathlib.Core.Path.{refl}
 use native.Mathlib.Omega.{arith}
 use Rattle.recalls.proofs.Accepting.{exposure-in, book-of, left-within, after-within, substitutes-found}
-use Rattle.bonds.proofs.Rows.{bounded, quoted, today-within, basket-below, oldest-le}
+use Rattle.bonds.proofs.Rows.{bounded, basket-below, oldest-le}
 use borrow.Author.Needs.{needs}
 use Rattle.recalls.proofs.substitution.substitutes.Statement.{statement}
 use Rattle.recalls.proofs.substitution.substitutes.Tie as tie
@@ -36,25 +36,32 @@ basket-of-requires c κs =
 get-requires-2 : tie.Need-get-requires-2
 get-requires-2 c κs = search needs
 
+eligibility-on-requires : tie.Need-eligibility-on-requires
+eligibility-on-requires c κs =
+    let k = c .before .before .before .before .before .before .before .before .before .before .pre in
+    oldest-le (book-of (k .0) (k .1)) (exposure-in (k .0)) refl (k .0 .recallable .used) (c .before .basket-of .ensures)
+
 element-copy-out-pick : tie.Need-element-copy-out-pick
 element-copy-out-pick c = search needs
 
 pick-requires : tie.Need-pick-requires
 pick-requires c κs =
-    let k = c .before .before .before .before .before .before .before .before .before .before .before .before .pre in
-    let m = book-of (k .0) (k .1) in (
-      oldest-le m (exposure-in (k .0)) refl (k .0 .recallable .used) (c .before .before .before .basket-of .ensures),
-      today-within m (c .before .before .get2 .ensures),
-      bounded m,
-      quoted m,
-      after-within (k .0) (λ i. c .before .before .before .before .before .before .before .before .before .before .before .shared-slice-known .given i .fits) (c .before .before .before .before .account-after .ensures),
-    )
+    let account = c .before .before .before .before .before in
+    let known = account .before .before .before .before .before .before .before in
+    let k = known .before .pre in
+    (bounded (book-of (k .0) (k .1)), after-within (k .0) (λ i. known .shared-slice-known .given i .fits) (account .account-after .ensures))
 
 returns : tie.Need-returns
 returns c =
-    let k = c .before .before .before .before .before .before .before .before .before .before .before .before .before .pre in
-    substitutes-found (k .0) (k .1) (c .before .before .before .before .before .before .before .before .before .before .position-left .ensures) (c .before .before .before .before .before .before .before .before .worth-of .ensures) (c .before .before .before .before .before .before .before .get .ensures) (c .before .before .before .before .before .before .missing-from .ensures) (c .before .before .before .before .before .account-after .ensures) (c .before .before .before .before .basket-of .ensures)
-    (c .before .before .before .get2 .ensures) (c .pick .ensures)
+    let x = c .before .before .before in
+    let basket = x .before .before in
+    let account = basket .before in
+    let missing = account .before in
+    let value = missing .before .before in
+    let left = value .before .before in
+    let k = left .before .before .before .pre in
+    substitutes-found (k .0) (k .1) (left .position-left .ensures) (value .worth-of .ensures) (missing .before .get .ensures) (missing .missing-from .ensures) (account .account-after .ensures) (basket .basket-of .ensures)
+    (x .before .get2 .ensures) (x .eligibility-on .ensures) (c .pick .ensures)
 
 pub substitutes-spec : {M : Type 1} → statement M
 substitutes-spec =
@@ -68,6 +75,7 @@ substitutes-spec =
     account-after-requires
     basket-of-requires
     get-requires-2
+    eligibility-on-requires
     element-copy-out-pick
     pick-requires
     returns)
