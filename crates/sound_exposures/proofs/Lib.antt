@@ -1,3 +1,2 @@
 pub mod Keys
-pub mod Sums
 pub mod Ways

@@ -1,3 +1,1 @@
-pub mod Holdings
 pub mod Keys
-pub mod Positions

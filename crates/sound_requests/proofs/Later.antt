@@ -1,19 +1,20 @@
 -- The later row of a pair whose earlier row is sound: what the two have in common is sound already.
 -- Assumes nothing.
 use mathlib.Core.Path.{_≡_, sym, _∙_}
-use mathlib.Core.Bool.{Bool, true, false, not, _&&_, and-false}
+use mathlib.Core.Bool.{Bool, true, false, not, _&&_, and-false, or-true}
 use mathlib.Core.Logic.{_⊎_, inl, inr, ⊎-elim}
-use Prim.Native.Nat.{ℕ, _+_, _-_, _≤_, _<_}
-use native.Mathlib.Decide.{ℕ-discrete}
+use Prim.Native.Nat.{ℕ, _+_, _*_, _-_, _≤_, _<_}
+use native.Mathlib.Decide.{ℕ-discrete, decLt}
 use native.Mathlib.Omega.{arith}
 use lib.Dec.{leb}
 use borrow.Author.Tests.{ne-eqb, lt-leb, le-ltb, leb-true, leb-false, not-false}
+use Rattle.laws.specs.Search.{all}
 use Rattle.laws.proofs.Cases.{either}
-use Rattle.calendar.specs.Target.{openDay}
-use Rattle.book.specs.Layout.{nextNumber, numbers, settlements, partners, cancels}
+use Rattle.laws.proofs.Least.{all-at}
+use Rattle.book.specs.Layout.{nextNumber, numbers, settlements, closings, partners, cancels}
 use Rattle.book.specs.State.{State}
 use Rattle.rules.specs.Requests.{isUsed, isPaired, isReturn, partnerOf, exposureOfFop}
-use Rattle.rules.specs.Sound.{soundFields, soundPaired, soundRow}
+use Rattle.rules.specs.Sound.{openOrNone, soundFields, soundPaired, soundRow}
 use Rattle.facts.proofs.Rows.{Kind, fop, return, Fields, Pair, Paired, used-fields, used-paired, unused-blank, paired-sound}
 use Rattle.sound_requests.specs.Rows.{Passed, Later}
 
@@ -131,8 +132,8 @@ later-of s i {n} {p} r nq nn pq pn h = record {
   earlier = r .each (p - 1) (omega arith);
 }
 
--- the rows before, one more
-pub passed-none : (s : State) → Passed s 0
+-- the rows before, one more, and sixteen more
+pub passed-none : (s : State) → Passed s (16 * 0)
 passed-none s = record { each = λ j h. absurd (omega arith) }
 
 pub passed-next : (s : State) {i : ℕ} {b : Bool} → Passed s i → b ≡ soundRow s i → not b ≡ false → Passed s (i + 1)
@@ -143,10 +144,31 @@ passed-next s {i} {b} r e f = record {
   ];
 }
 
--- the settlement day of a sound row is open, where there is one
-pub settlement-open : (s : State) (i : ℕ) {d : ℕ} → soundRow s i ≡ true → d ≡ s settlements i → (d ≡ 0 → ⊥) → openDay d ≡ true
-settlement-open s i {d} h e n =
-    ⊎-elim
-    (λ u. rw e (used-fields s i h u .settlement))
-    (λ u. absurd (n (e ∙ unused-blank s i h u settlements (omega arith) (omega arith))))
-    (either (isUsed s i))
+pub passed-sixteen : (s : State) (k : ℕ) {b : Bool} → Passed s (16 * k) → b ≡ all (soundRow s) 16 (16 * k) → not b ≡ false → Passed s (16 * (k + 1))
+passed-sixteen s k {b} r e f = record {
+  each = λ j h. elim (decLt j (16 * k)) [
+    | yes q ↦ r .each j q
+    | no q ↦ all-at (soundRow s) 16 (16 * k) (sym e ∙ not-false b f) j (omega arith) (omega arith)
+  ];
+}
+
+-- the days of a sound row are open, or none
+pub settlement-open : (s : State) (i : ℕ) {d : ℕ} → soundRow s i ≡ true → d ≡ s settlements i → openOrNone d ≡ true
+settlement-open s i h q =
+    rw q
+    (⊎-elim
+    (λ u. rw (used-fields s i h u .settlement, or-true))
+    (λ u. rw (unused-blank s i h u settlements (omega arith) (omega arith)))
+    (either (isUsed s i)))
+
+kind-closing : (s : State) (i : ℕ) → Kind s i → openOrNone (s closings i) ≡ true
+kind-closing s i (fop e f) = f .closing
+kind-closing s i (return e r) = rw (r .closing)
+
+pub closing-open : (s : State) (i : ℕ) {d : ℕ} → soundRow s i ≡ true → d ≡ s closings i → openOrNone d ≡ true
+closing-open s i h q =
+    rw q
+    (⊎-elim
+    (λ u. kind-closing s i (used-fields s i h u .kind))
+    (λ u. rw (unused-blank s i h u closings (omega arith) (omega arith)))
+    (either (isUsed s i)))

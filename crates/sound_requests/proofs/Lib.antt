@@ -1,3 +1,4 @@
+pub mod Blocks
 pub mod Later
 pub mod Marks
 pub mod Ways

@@ -1,69 +1,25 @@
--- Numbers by their marks, exposures by their hints, and several numbers of a row in one.
+-- Exposures by their hints, and several numbers of a row in one.
 -- Assumes nothing.
 use mathlib.Core.Path.{_≡_, sym, ap, _∙_}
-use mathlib.Core.Bool.{Bool, true, false, or-true}
-use mathlib.Core.List.{List}
+use mathlib.Core.Bool.{Bool, true, false}
 use mathlib.Core.Logic.{⊎-elim}
-use Prim.Native.Nat.{ℕ, zero, suc, _+_, _%_, _≤_, _<_}
+use Prim.Native.Nat.{ℕ, zero, suc, _+_, _≤_, _<_}
 use native.Mathlib.Decide.{ℕ-discrete}
 use native.Mathlib.Omega.{arith}
 use lib.Bits.{bitOr, bitXor, or-zero-l, xor-add-and, xor-self, and-le-l, and-le-r}
 use lib.Dec.{eqb, ltb}
-use lib.ListN.{length, getD, set, length-set, replicate, length-replicate}
-use lib.Seq.{getD-set-same, getD-set-other}
-use borrow.Author.Tests.{eq-eqb, ne-eqb, eqb-true, lt-ltb}
+use borrow.Author.Tests.{eq-eqb, eqb-true, lt-ltb}
 use Rattle.laws.specs.Search.{least}
 use Rattle.laws.proofs.Cases.{either, clash}
 use Rattle.laws.proofs.Least.{all-at, all-same, least-hit, least-miss}
-use Rattle.book.specs.Layout.{numbers, kinds, givers, takers, objects, amounts, settlements, closings}
+use Rattle.book.specs.Layout.{givers, takers, objects, amounts, settlements, closings}
 use Rattle.book.specs.State.{State}
 use Rattle.rules.specs.Requests.{hasKey, exposureWith}
-use Rattle.rules.specs.Sound.{same, alike, blank, differs, distinctNumber}
+use Rattle.rules.specs.Sound.{same, alike, blank}
 use Rattle.facts.proofs.Facts.{all-of}
 use Rattle.sound_setup.proofs.Empty.{agree, or-left, or-right}
-use Rattle.sound_requests.specs.Rows.{Reads, Marked}
+use Rattle.sound_requests.specs.Rows.{Reads}
 use Rattle.sound_requests.specs.declared.Request as declared
-
--- a number at whose place there is no mark differs from all before; and one more mark
-module _ (s : State) (marks : List ℕ) (i : ℕ) (m : Marked s marks i) {n : ℕ} (nq : n ≡ s numbers i) where
-  pub none-next : n ≡ 0 → Marked s marks (i + 1)
-  none-next z = record {
-    long = m .long;
-    each = λ j l u. elim (ℕ-discrete j i) [
-      | yes e ↦ absurd (u (rw e (sym nq ∙ z)))
-      | no e ↦ m .each j (omega arith) u
-    ];
-  }
-
-  module _ (used : n ≡ 0 → ⊥) where
-    other : getD marks (n % 4096) 0 ≡ 0 → (j : ℕ) → j < i → differs s i j ≡ true
-    other z j l = rw (ne-eqb (s numbers i) (s numbers j) (λ e.
-        let same : n ≡ s numbers j = nq ∙ e in
-        let mark : getD marks (n % 4096) 0 ≡ 1 = rw same (m .each j l (λ y. used (same ∙ y))) in
-        omega arith))
-
-    pub not-marked : getD marks (n % 4096) 0 ≡ 0 → true ≡ distinctNumber s i
-    not-marked z = sym (rw (all-of (differs s i) i 0 (λ j a l. other z j (omega arith)), or-true))
-
-  pub marked-next : Marked s (set marks (n % 4096) 1) (i + 1)
-  marked-next =
-      let inside : n % 4096 < length marks = omega (arith, m .long) in
-      record {
-        long = simp length-set (m .long);
-        each = λ j l u. elim (ℕ-discrete (s numbers j % 4096) (n % 4096)) [
-          | yes q ↦ rw (q, getD-set-same marks (n % 4096) 1 0 inside)
-          | no q ↦ getD-set-other marks (n % 4096) (s numbers j % 4096) 1 0 q ∙ m .each j (before j l q) u
-        ];
-      }
-    where
-      before : (j : ℕ) → j < i + 1 → (s numbers j % 4096 ≡ n % 4096 → ⊥) → j < i
-      before j l q = elim (ℕ-discrete j i) [
-        | yes e ↦ absurd (q (rw (e, nq)))
-        | no e ↦ omega arith
-      ]
-
-pub marked-none : (s : State) → Marked s (replicate 4096 0) 0
-marked-none s = record { long = length-replicate {A = ℕ} 4096 0; each = λ j l u. absurd (omega arith) }
 
 -- a test that holds at a number finds one that is no higher
 least-found : (t : ℕ → Bool) (n i j : ℕ) → t j ≡ true → i ≤ j → j < i + n → least t n i ≤ j
@@ -116,12 +72,6 @@ both p e = rw (p, e)
 
 bits : {a b c d : ℕ} → a ≡ c → b ≡ d → bitXor a b ≡ bitXor c d
 bits p e = rw (p, e)
-
-pub by-together : (s : State) (i : ℕ) {k d g t o a y c r z p l x e : ℕ} → k ≡ s 16 i → d ≡ s 17 i → g ≡ s 18 i → t ≡ s 19 i → o ≡ s 20 i → a ≡ s 21 i → y ≡ s 22 i → c ≡ s 23 i → r ≡ s 24 i → z ≡ s 25 i → p ≡ s 26 i → l ≡ s 27 i → x ≡ s 28 i → e ≡ s 29 i
-    → eqb (bitOr (bitOr (bitOr (bitOr (bitOr (bitOr (bitOr (bitOr (bitOr (bitOr (bitOr (bitOr (bitOr k d) g) t) o) a) y) c) r) z) p) l) x) e) 0 ≡ blank s 14 kinds i
-by-together s i kq dq gq tq oq aq yq cq rq zq pq lq xq eq =
-    ap (λ (x : ℕ). eqb x 0) (both (both (both (both (both (both (both (both (both (both (both (both (both kq dq) gq) tq) oq) aq) yq) cq) rq) zq) pq) lq) xq) eq)
-    ∙ together-blank s i kinds 13
 
 -- two numbers are equal where they have no bit that differs
 same-bits : (x y : ℕ) → eqb (bitXor x y) 0 ≡ eqb x y

@@ -233,16 +233,6 @@ module _ (s : State) (giver taker basket closing e : ℕ) {u : ℕ} (uq : u ≡ 
         pub by-key-closing : {c : ℕ} → b ≡ basket → c ≡ s exposureClosings e → eqb c closing ≡ hasKey s giver taker basket closing e
         by-key-closing h cq = rw (← uq, eq-eqb u 1 used, ← gq, eq-eqb g giver gh, ← tq, eq-eqb t taker th, ← bq, eq-eqb b basket h, ← cq)
 
--- distinct numbers
-module _ (s : State) (i : ℕ) {n : ℕ} (nq : n ≡ s numbers i) where
-  pub no-number : n ≡ 0 → true ≡ distinctNumber s i
-  no-number h = rw (← nq, eq-eqb n 0 h)
-
-  pub numbers-of : (n ≡ 0 → ⊥) → all (differs s i) (i - 0) 0 ≡ distinctNumber s i
-  numbers-of h =
-      let mark : eqb (s numbers i) 0 ≡ false = ne-eqb (s numbers i) 0 (λ m. h (nq ∙ m)) in
-      rw (mark, sub-zero)
-
 -- two sides
 pub first-giver : (a b : ℕ) → a ≡ 0 → eqb b 1 ≡ eqb (a + b) 1
 first-giver a b h = rw (h, zero-add)

@@ -1,15 +1,15 @@
 -- A request row that is read once, and what the pass over the rows knows of those before.
 -- Assumes nothing.
 use mathlib.Core.Bool.{Bool, true, _&&_, cond}
-use mathlib.Core.List.{List}
 use mathlib.Core.Path.{_≡_}
-use Prim.Native.Nat.{ℕ, _+_, _%_, _<_}
+use Prim.Native.Nat.{ℕ, _+_, _*_, _<_}
 use lib.Dec.{eqb, leb}
-use lib.ListN.{length, getD}
+use Rattle.laws.specs.Search.{all}
 use Rattle.book.specs.Layout.{numbers, kinds, sides, givers, takers, objects, amounts, settlements, closings, settleds, partners, pairPartials, cancels, ends}
 use Rattle.book.specs.State.{State}
 use Rattle.rules.specs.Requests.{isPaired}
 use Rattle.rules.specs.Sound.{soundPaired, soundUnpaired, soundRow}
+use Rattle.sound_setup.specs.Bytes.{emptyRows}
 use Rattle.sound_requests.specs.declared.Request as declared
 
 -- the fields are those of the book's row
@@ -52,7 +52,6 @@ pub record Later (s : State) (i j : ℕ) : Type 0 where
   pub named : s partners i ≡ j + 1
   pub earlier : soundRow s j ≡ true
 
--- the numbers before i that are not 0 are marked, each at its place
-pub record Marked (s : State) (marks : List ℕ) (i : ℕ) : Type 0 where
-  pub long : length marks ≡ 4096
-  pub each : (j : ℕ) → j < i → (s numbers j ≡ 0 → ⊥) → getD marks (s numbers j % 4096) 0 ≡ 1
+-- sixteen rows of n tables from one on hold nothing
+abbrev pub emptyTables : State → ℕ → ℕ → ℕ → Bool
+emptyTables s n from k = all (λ f. emptyRows s f (16 * k) 16) n from

@@ -1,16 +1,17 @@
-// Document 01's soundness sentence, of the request rows: fields, pairs, distinct numbers.
+// Document 01's soundness sentence, of the request rows: fields, pairs.
 ghost use mathlib.Core.Bool.{_||_, true};
 ghost use mathlib.Core.Path.{_≡_};
-ghost use Prim.Native.Nat.{_+_, _<_};
+ghost use Prim.Native.Nat.{_+_, _*_, _<_};
 ghost use lib.Dec.{eqb, ltb};
 ghost use lib.ListN.{length};
 ghost use Rattle.laws.specs.Search.{all};
 ghost use Rattle.book.specs.Layout.{bookLength, numbers, kinds, givers};
 ghost use Rattle.book.specs.State.{state};
 ghost use Rattle.rules.specs.Requests.{isReturn, hasKey, exposureWith, exposureOfFop};
-ghost use Rattle.rules.specs.Sound.{openOrNone, returnNames, soundFop, soundReturn, soundKind, soundFields, alike, blank, marksAlike, soundPair, soundPaired, soundRow, differs, distinctNumber};
+ghost use Rattle.rules.specs.Sound.{openOrNone, returnNames, soundFop, soundReturn, soundKind, soundFields, alike, blank, marksAlike, soundPair, soundPaired, soundRow};
 ghost use Rattle.sound_setup.specs.Days.{OpenDays};
-ghost use Rattle.sound_requests.specs.Rows.{Reads, marksOf, unpairedOf, soundRest, Later, Passed, Marked};
+ghost use Rattle.sound_setup.specs.Rows.{InRows};
+ghost use Rattle.sound_requests.specs.Rows.{Reads, marksOf, unpairedOf, soundRest, Later, Passed, emptyTables};
 use book::layout::AMOUNTS;
 use book::layout::CANCELS;
 use book::layout::CLOSINGS;
@@ -26,7 +27,6 @@ use book::layout::NUMBERS;
 use book::layout::OBJECTS;
 use book::layout::PAIR_PARTIALS;
 use book::layout::PARTNERS;
-use book::layout::REFERENCES;
 use book::layout::SETTLEDS;
 use book::layout::SETTLEMENTS;
 use book::layout::SIDES;
@@ -95,17 +95,6 @@ fn does_return_name(book: &[u8], q: Request) -> bool
     book::get(book, EXPOSURE_TAKERS, e) == q.taker
 }
 
-// Is a closing day open, or none?
-fn is_known_or_none(days: &[u64; 16], day: u64) -> bool
-    requires { ⌜ OpenDays (now days) ⌝ }
-    ensures { λ r. ⌜ r ≡ openOrNone day ⌝ }
-{
-    if day == 0 {
-        return true;
-    }
-    sound_setup::is_known_open(days, day)
-}
-
 fn is_sound_fop(book: &[u8], q: Request, days: &[u64; 16]) -> bool
     requires { ⌜ (length (now book) ≡ bookLength) × Reads (state (now book)) q × OpenDays (now days) ⌝ }
     ensures { λ r. ⌜ r ≡ soundFop (state (now (book .entry))) (q .row) ⌝ }
@@ -117,7 +106,7 @@ fn is_sound_fop(book: &[u8], q: Request, days: &[u64; 16]) -> bool
     if !sound_setup::is_between(least, 1000000000000, q.amount) {
         return false;
     }
-    is_known_or_none(days, q.closing)
+    sound_setup::is_open_or_none(days, q.closing)
 }
 
 fn is_sound_return(book: &[u8], q: Request) -> bool
@@ -417,40 +406,41 @@ fn is_sound_later(book: &[u8], i: usize, j: usize) -> bool
     book::get(book, CANCELS, i) <= 1
 }
 
-// Does a row hold nothing, in the fourteen tables from the kinds on?
+// Does a row hold nothing, in the fourteen tables from the kinds on? The loops are short enough for the compiler to unroll.
 fn is_blank_row(book: &[u8], i: usize) -> bool
     requires { ⌜ (length (now book) ≡ bookLength) × (i < 256) ⌝ }
     ensures { λ r. ⌜ r ≡ blank (state (now (book .entry))) 14 kinds i ⌝ }
 {
-    let kind = book::get(book, KINDS, i);
-    let side = book::get(book, SIDES, i);
-    let giver = book::get(book, GIVERS, i);
-    let taker = book::get(book, TAKERS, i);
-    let object = book::get(book, OBJECTS, i);
-    let amount = book::get(book, AMOUNTS, i);
-    let settlement = book::get(book, SETTLEMENTS, i);
-    let closing = book::get(book, CLOSINGS, i);
-    let reference = book::get(book, REFERENCES, i);
-    let settled = book::get(book, SETTLEDS, i);
-    let partner = book::get(book, PARTNERS, i);
-    let partial = book::get(book, PAIR_PARTIALS, i);
-    let cancel = book::get(book, CANCELS, i);
-    let end = book::get(book, ENDS, i);
-    let all = kind
-        | side
-        | giver
-        | taker
-        | object
-        | amount
-        | settlement
-        | closing
-        | reference
-        | settled
-        | partner
-        | partial
-        | cancel
-        | end;
-    all == 0
+    if !sound_setup::is_blank(book, 6, KINDS, i) {
+        return false;
+    }
+    sound_setup::is_blank(book, 8, SETTLEMENTS, i)
+}
+
+// Do sixteen rows hold nothing, in n tables from one on?
+fn are_tables_empty(book: &[u8], n: usize, from: usize, k: usize) -> bool
+    requires { ⌜ (length (now book) ≡ bookLength) × (k < 16) × InRows n from 255 ⌝ }
+    ensures { λ r. ⌜ r ≡ emptyTables (state (now (book .entry))) n from k ⌝ }
+{
+    let mut f = from;
+    while f < from + n {
+        if !sound_setup::are_rows_empty(book, f, 16 * k, 16) {
+            return false;
+        }
+        f += 1;
+    }
+    true
+}
+
+// The same in the fourteen tables from the kinds on.
+fn are_sixteen_blank(book: &[u8], k: usize) -> bool
+    requires { ⌜ (length (now book) ≡ bookLength) × (k < 16) ⌝ }
+    ensures { λ r. ⌜ r ≡ emptyTables (state (now (book .entry))) 14 kinds k ⌝ }
+{
+    if !are_tables_empty(book, 6, KINDS, k) {
+        return false;
+    }
+    are_tables_empty(book, 8, SETTLEMENTS, k)
 }
 
 fn is_sound_row(book: &[u8], hints: &[u8; 1024], days: &[u64; 16], i: usize) -> bool
@@ -470,15 +460,43 @@ fn is_sound_row(book: &[u8], hints: &[u8; 1024], days: &[u64; 16], i: usize) -> 
     is_sound_first(book, hints, days, i)
 }
 
-// Puts the settlement day of a sound row among those at hand.
-fn note_settlement(days: &mut [u64; 16], book: &[u8], i: usize)
+// Puts the days of a sound row among those at hand.
+fn note_days(days: &mut [u64; 16], book: &[u8], i: usize)
     requires { ⌜ (length (now book) ≡ bookLength) × (i < 256) × OpenDays (now days) × (soundRow (state (now book)) i ≡ true) ⌝ }
     ensures { λ _. ⌜ OpenDays (now (days .exit)) ⌝ }
 {
-    let day = book::get(book, SETTLEMENTS, i);
-    if day != 0 {
-        sound_setup::note_open(days, day);
+    let settlement = book::get(book, SETTLEMENTS, i);
+    let closing = book::get(book, CLOSINGS, i);
+    sound_setup::note_open_or_none(days, settlement);
+    sound_setup::note_open_or_none(days, closing);
+}
+
+// Sixteen rows, one after the other: those before are sound.
+fn are_each_sound(book: &[u8], hints: &[u8; 1024], days: &mut [u64; 16], k: usize) -> bool
+    requires { ⌜ (length (now book) ≡ bookLength) × (k < 16) × OpenDays (now days) × Passed (state (now book)) (16 * k) ⌝ }
+    ensures { λ r. ⌜ (r ≡ all (soundRow (state (now (book .entry)))) 16 (16 * k)) × OpenDays (now (days .exit)) ⌝ }
+{
+    let end = 16 * k + 16;
+    let mut i = 16 * k;
+    while i < end {
+        if !is_sound_row(book, hints, days, i) {
+            return false;
+        }
+        note_days(days, book, i);
+        i += 1;
     }
+    true
+}
+
+// The same: where none of the sixteen is used, table by table, each with sixteen bytes at a time.
+fn are_sixteen_sound(book: &[u8], hints: &[u8; 1024], days: &mut [u64; 16], k: usize) -> bool
+    requires { ⌜ (length (now book) ≡ bookLength) × (k < 16) × OpenDays (now days) × Passed (state (now book)) (16 * k) ⌝ }
+    ensures { λ r. ⌜ (r ≡ all (soundRow (state (now (book .entry)))) 16 (16 * k)) × OpenDays (now (days .exit)) ⌝ }
+{
+    if sound_setup::are_rows_empty(book, NUMBERS, 16 * k, 16) {
+        return are_sixteen_blank(book, k);
+    }
+    are_each_sound(book, hints, days, k)
 }
 
 pub fn are_sound_rows(book: &[u8]) -> bool
@@ -488,70 +506,12 @@ pub fn are_sound_rows(book: &[u8]) -> bool
     let mut hints = [0u8; 1024];
     put_hints(&mut hints, book);
     let mut days = [1u64; 16];
-    let mut i: usize = 0;
-    while i < 256 {
-        if !is_sound_row(book, &hints, &days, i) {
+    let mut k: usize = 0;
+    while k < 16 {
+        if !are_sixteen_sound(book, &hints, &mut days, k) {
             return false;
         }
-        note_settlement(&mut days, book, i);
-        i += 1;
-    }
-    true
-}
-
-fn differ(book: &[u8], i: usize, j: usize) -> bool
-    requires { ⌜ (length (now book) ≡ bookLength) × (i < 256) × (j < 256) ⌝ }
-    ensures { λ r. ⌜ r ≡ differs (state (now (book .entry))) i j ⌝ }
-{
-    book::get(book, NUMBERS, i) != book::get(book, NUMBERS, j)
-}
-
-fn is_distinct_number(book: &[u8], i: usize) -> bool
-    requires { ⌜ (length (now book) ≡ bookLength) × (i < 256) ⌝ }
-    ensures { λ r. ⌜ r ≡ distinctNumber (state (now (book .entry))) i ⌝ }
-{
-    if book::get(book, NUMBERS, i) == 0 {
-        return true;
-    }
-    let mut j: usize = 0;
-    while j < i {
-        if !differ(book, i, j) {
-            return false;
-        }
-        j += 1;
-    }
-    true
-}
-
-// The same by the marks: a number at whose place there is none differs from all before. It leaves its own.
-fn is_new_number(marks: &mut [u8; 4096], book: &[u8], i: usize) -> bool
-    requires { ⌜ (length (now book) ≡ bookLength) × (i < 256) × Marked (state (now book)) (now marks) i ⌝ }
-    ensures { λ r. ⌜ (r ≡ distinctNumber (state (now (book .entry))) i) × Marked (state (now (book .entry))) (now (marks .exit)) (i + 1) ⌝ }
-{
-    let number = book::get(book, NUMBERS, i);
-    if number == 0 {
-        return true;
-    }
-    let place = (number % 4096) as usize;
-    let mark = marks[place];
-    marks[place] = 1;
-    if mark == 0 {
-        return true;
-    }
-    is_distinct_number(book, i)
-}
-
-pub fn are_distinct_numbers(book: &[u8]) -> bool
-    requires { ⌜ length (now book) ≡ bookLength ⌝ }
-    ensures { λ r. ⌜ r ≡ all (distinctNumber (state (now (book .entry)))) 256 0 ⌝ }
-{
-    let mut marks = [0u8; 4096];
-    let mut i: usize = 0;
-    while i < 256 {
-        if !is_new_number(&mut marks, book, i) {
-            return false;
-        }
-        i += 1;
+        k += 1;
     }
     true
 }

@@ -3,8 +3,7 @@
 use mathlib.Core.Path.{_≡_, refl, sym, _∙_}
 use mathlib.Core.Bool.{true, false}
 use mathlib.Core.List.{List, [], _∷_}
-use Prim.Native.Nat.{ℕ, _%_}
-use native.Mathlib.Nat.{mod-lt}
+use Prim.Native.Nat.{ℕ, _<_}
 use native.Mathlib.Decide.{ℕ-discrete}
 use native.Mathlib.Omega.{arith}
 use lib.Dec.{eqb, leb}
@@ -17,7 +16,7 @@ use Rattle.book.specs.State.{State}
 use Rattle.calendar.specs.Easter.{easter}
 use Rattle.calendar.specs.Gregorian.{dayOfYear, startOf, yearOf, leapDay}
 use Rattle.calendar.specs.Target.{openDay, holiday}
-use Rattle.rules.specs.Sound.{between, soundSecurity}
+use Rattle.rules.specs.Sound.{between, openOrNone, soundSecurity}
 use Rattle.facts.proofs.Truth.{split}
 use Rattle.sound_setup.specs.Days.{OpenDays}
 
@@ -29,18 +28,22 @@ first-open = refl
 pub days-start : OpenDays (replicate 16 1)
 days-start = record { long = refl; each = λ k l. rw (getD-replicate {A = ℕ} 16 k 1 0 l) first-open }
 
-module _ (days : List ℕ) (day : ℕ) (known : OpenDays days) where
-  pub day-known : getD days (day % 16) 0 ≡ day → true ≡ openDay day
-  day-known e = sym (rw e at (known .each (day % 16) (mod-lt day (omega arith))))
+module _ (days : List ℕ) (day : ℕ) {place : ℕ} (known : OpenDays days) (near : place < 16) where
+  pub day-known : getD days place 0 ≡ day → true ≡ openDay day
+  day-known e = sym (rw e at (known .each place near))
 
-  pub day-noted : openDay day ≡ true → OpenDays (set days (day % 16) day)
+  pub day-noted : openDay day ≡ true → OpenDays (set days place day)
   day-noted o = record {
     long = simp length-set (known .long);
-    each = λ k l. elim (ℕ-discrete k (day % 16)) [
-      | yes q ↦ rw (q, getD-set-same days (day % 16) day 0 (omega (arith, known .long))) o
-      | no q ↦ rw (getD-set-other days (day % 16) k day 0 q) (known .each k l)
+    each = λ k l. elim (ℕ-discrete k place) [
+      | yes q ↦ rw (q, getD-set-same days place day 0 (omega (arith, known .long))) o
+      | no q ↦ rw (getD-set-other days place k day 0 q) (known .each k l)
     ];
   }
+
+-- a closing day that there is
+pub some-day : (d : ℕ) → openOrNone d ≡ true → (d ≡ 0 → ⊥) → openDay d ≡ true
+some-day d h n = rw (ne-eqb d 0 n) at h
 
 -- the quote day of a sound security
 pub quote-open : (s : State) (i : ℕ) {l q : ℕ} → soundSecurity s i ≡ true → l ≡ s lots i → (l ≡ 0 → ⊥) → q ≡ s quotes i → openDay q ≡ true

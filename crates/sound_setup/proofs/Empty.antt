@@ -1,11 +1,11 @@
--- Bytes that are all 0: one number that has seen them, and the rows of four bytes that they are.
+-- Bytes that are all 0: one number that has seen them, and the rows that they are.
 -- Assumes nothing.
 use mathlib.Core.Path.{_≡_, refl, sym, _∙_}
 use mathlib.Core.Bool.{Bool, true}
 use mathlib.Core.List.{List}
 use mathlib.Core.Logic.{⊎-elim}
-use Prim.Native.Nat.{ℕ, zero, suc, _+_, _*_, _/_, _%_, _≤_, _<_}
-use native.Mathlib.Nat.{div-add-mod', mod-lt, zero-add}
+use Prim.Native.Nat.{ℕ, zero, suc, _+_, _*_, _-_, _/_, _%_, _≤_, _<_}
+use native.Mathlib.Nat.{div-add-mod, div-lt-iff-lt-mul, mod-lt, mul-add, mul-comm, mul-le-mul-left, zero-add}
 use native.Mathlib.Decide.{ℕ-discrete}
 use native.Mathlib.Omega.{arith}
 use lib.Bits.{bitOr, or-add-and, and-le-l, and-le-r, or-zero-l}
@@ -15,15 +15,15 @@ use lib.Seq.{getD-take, getD-drop}
 use borrow.Author.Tests.{eq-eqb, eqb-true}
 use Rattle.laws.specs.Numbers.{numberAt}
 use Rattle.laws.specs.Search.{all}
-use Rattle.laws.specs.Sum.{sum}
 use Rattle.laws.proofs.Cases.{either, clash}
 use Rattle.laws.proofs.Least.{all-at, all-same}
-use Rattle.book.specs.Layout.{bookLength, rowsOf, widthOf, baseOf, spares}
-use Rattle.book.specs.State.{state}
+use Rattle.book.specs.Layout.{bookLength, tableCount, rowsOf, widthOf, baseOf, spares}
+use Rattle.book.specs.State.{State, state}
 use Rattle.book.proofs.Cells.{state-at}
+use Rattle.book.proofs.Places.{rows-apart, tables-inside, width-eight}
 use Rattle.rules.specs.Sound.{isSpare}
 use Rattle.facts.proofs.Facts.{all-of}
-use Rattle.sound_setup.specs.Bytes.{emptyByte, emptyBytes}
+use Rattle.sound_setup.specs.Bytes.{emptyByte, emptyBytes, emptyRows}
 
 -- two tests of which each implies the other
 pub agree : {a b : Bool} → (a ≡ true → b ≡ true) → (b ≡ true → a ≡ true) → a ≡ b
@@ -82,56 +82,74 @@ module _ (b : List ℕ) (p : ℕ) where
         | no q ↦ number-zero w high r (omega arith)
       ]
 
--- n rows of a table of four bytes a row, as the bytes that they are
-module _ (b : List ℕ) (f start n at : ℕ) (here : at ≡ baseOf f + 4 * start) (four : widthOf f ≡ 4) (rows : start + n ≤ rowsOf f) (inside : at + 4 * n ≤ length b) where
-  row-is : (i : ℕ) → i < n → state b f (start + i) ≡ numberAt b (at + 4 * i) 4
-  row-is i l =
-      let place : baseOf f + 4 * (start + i) ≡ at + 4 * i = omega arith in
-      state-at b f (start + i) (omega arith) ∙ rw (four, place)
+-- a row has bytes
+width-some : (f i : ℕ) → i < rowsOf f → 0 < widthOf f
+width-some f i l = elim (ℕ-discrete (widthOf f) 4) [ yes q ↦ omega arith | no q ↦ omega (arith, width-eight f i l q) ]
 
-  part-at : (j : ℕ) → j < 4 * n → getD (take (4 * n) (drop at b)) j 0 ≡ getD b (at + j) 0
+-- rows end within the book
+pub rows-end : (f start n : ℕ) {at w : ℕ} → f < tableCount → start + n ≤ rowsOf f → at ≡ baseOf f → w ≡ widthOf f → at + w * start + w * n ≤ bookLength
+rows-end f start n {at} {w} l h p q =
+    let most : widthOf f * (start + n) ≤ widthOf f * rowsOf f = mul-le-mul-left (widthOf f) h in
+    let whole : baseOf f + rowsOf f * widthOf f ≤ bookLength = tables-inside f l in
+    rw (p, q) (omega (arith, most, whole, mul-add (widthOf f) start n, mul-comm (rowsOf f) (widthOf f)))
+
+-- n rows of a table, as the bytes that they are
+module _ (b : List ℕ) (f start n : ℕ) {at w : ℕ} (long : length b ≡ bookLength) (table : f < tableCount) (here : at ≡ baseOf f) (wide : w ≡ widthOf f) (few : 0 < n) (rows : start + n ≤ rowsOf f) where
+  some : 0 < w
+  some = rw wide (width-some f start (omega arith))
+
+  abbrev from : ℕ
+  from = at + w * start
+
+  abbrev part : List ℕ
+  part = take (w * n) (drop from b)
+
+  row-is : (i : ℕ) → i < n → state b f (start + i) ≡ numberAt b (from + w * i) w
+  row-is i l =
+      let place : at + w * (start + i) ≡ from + w * i = omega (arith, mul-add w start i) in
+      state-at b f (start + i) (omega arith) ∙ rw (← here, ← wide, place)
+
+  part-at : (j : ℕ) → j < w * n → getD part j 0 ≡ getD b (from + j) 0
   part-at j l = rw (getD-take, getD-drop)
 
-  part-long : length (take (4 * n) (drop at b)) ≡ 4 * n
-  part-long = simp (length-take, length-drop) (omega arith)
+  part-long : length part ≡ w * n
+  part-long = simp (length-take, length-drop) (omega (arith, rows-end f start n table rows here wide))
 
-  -- the byte j is one of the row j / 4
-  byte-zero : ((i : ℕ) → i < n → numberAt b (at + 4 * i) 4 ≡ 0) → (j : ℕ) → j < 4 * n → getD b (at + j) 0 ≡ 0
+  -- the byte j is one of the row j / w
+  byte-zero : ((i : ℕ) → i < n → numberAt b (from + w * i) w ≡ 0) → (j : ℕ) → j < w * n → getD b (from + j) 0 ≡ 0
   byte-zero h j l =
-      let e : j / 4 * 4 + j % 4 ≡ j = div-add-mod' j 4 in
-      let m : j % 4 < 4 = mod-lt j (omega arith) in
-      let place : at + j ≡ at + 4 * (j / 4) + j % 4 = omega arith in
-      rw place (number-zero b (at + 4 * (j / 4)) 4 (h (j / 4) (omega arith)) (j % 4) m)
+      let i = j / w in
+      let row : i < n = (div-lt-iff-lt-mul some) .1 (omega (arith, mul-comm w n)) in
+      let place : from + j ≡ from + w * i + j % w = omega (arith, div-add-mod j w) in
+      rw place (number-zero b (from + w * i) w (h i row) (j % w) (mod-lt j some))
 
   -- the byte r of the row i
-  byte-of-row : ((j : ℕ) → j < 4 * n → getD b (at + j) 0 ≡ 0) → (i : ℕ) → i < n → (r : ℕ) → r < 4 → getD b (at + 4 * i + r) 0 ≡ 0
-  byte-of-row h i l r m = let place : at + 4 * i + r ≡ at + (4 * i + r) = omega arith in rw place (h (4 * i + r) (omega arith))
+  byte-of-row : ((j : ℕ) → j < w * n → getD b (from + j) 0 ≡ 0) → (i : ℕ) → i < n → (r : ℕ) → r < w → getD b (from + w * i + r) 0 ≡ 0
+  byte-of-row h i l r m =
+      let place : from + w * i + r ≡ from + (w * i + r) = omega arith in
+      rw place (h (w * i + r) (omega (arith, rows-apart w l)))
 
-  part-zero : emptyBytes (take (4 * n) (drop at b)) ≡ true → (j : ℕ) → j < 4 * n → getD b (at + j) 0 ≡ 0
-  part-zero p j l =
-      let part = take (4 * n) (drop at b) in
-      sym (part-at j l) ∙ eqb-true (getD part j 0) 0 (all-at (emptyByte part) (length part) 0 p j (omega arith) (omega (arith, part-long)))
+  part-zero : emptyBytes part ≡ true → (j : ℕ) → j < w * n → getD b (from + j) 0 ≡ 0
+  part-zero p j l = sym (part-at j l) ∙ eqb-true (getD part j 0) 0 (all-at (emptyByte part) (length part) 0 p j (omega arith) (omega (arith, part-long)))
 
-  zero-part : ((j : ℕ) → j < 4 * n → getD b (at + j) 0 ≡ 0) → emptyBytes (take (4 * n) (drop at b)) ≡ true
+  zero-part : ((j : ℕ) → j < w * n → getD b (from + j) 0 ≡ 0) → emptyBytes part ≡ true
   zero-part h =
-      let part = take (4 * n) (drop at b) in
       all-of (emptyByte part) (length part) 0 (λ j a l.
-      let m : j < 4 * n = omega (arith, part-long) in
+      let m : j < w * n = omega (arith, part-long) in
       eq-eqb (getD part j 0) 0 (part-at j m ∙ h j m))
 
-  pub empty-rows : emptyBytes (take (4 * n) (drop at b)) ≡ all (λ i. eqb (state b f (start + i)) 0) n 0
-  empty-rows =
+  part-rows : emptyBytes part ≡ emptyRows (state b) f start n
+  part-rows =
       let t : ℕ → Bool = λ i. eqb (state b f (start + i)) 0 in
       agree
       (λ p. all-of t n 0 (λ i a l.
       let m : i < n = omega arith in
-      eq-eqb (state b f (start + i)) 0 (row-is i m ∙ zero-number b (at + 4 * i) 4 (byte-of-row (part-zero p) i m))))
+      eq-eqb (state b f (start + i)) 0 (row-is i m ∙ zero-number b (from + w * i) w (byte-of-row (part-zero p) i m))))
       (λ p. zero-part (byte-zero (λ i m. sym (row-is i m) ∙ eqb-true (state b f (start + i)) 0 (all-at t n 0 p i (omega arith) (omega arith)))))
 
+  pub rows-empty : {r : Bool} → r ≡ emptyBytes (take (from + w * n - from) (drop from b)) → r ≡ emptyRows (state b) f start n
+  rows-empty q = let long : from + w * n - from ≡ w * n = omega arith in (rw long at q) ∙ part-rows
+
 -- the spare rows are the book's last bytes
-pub spares-empty : (b : List ℕ) {r : Bool} → length b ≡ bookLength → r ≡ emptyBytes (take 2356 (drop 46796 b)) → r ≡ all (isSpare (state b)) 589 0
-unfolding baseOf sum
-spares-empty b h e =
-    e
-    ∙ empty-rows b spares 0 589 46796 refl refl (omega arith) (omega arith)
-    ∙ all-same (λ i. eqb (state b spares (0 + i)) 0) (isSpare (state b)) 589 0 (λ j a l. rw zero-add)
+pub by-spares : (s : State) {r : Bool} → r ≡ emptyRows s spares 0 589 → r ≡ all (isSpare s) 589 0
+by-spares s e = e ∙ all-same (λ i. eqb (s spares (0 + i)) 0) (isSpare s) 589 0 (λ j a l. rw zero-add)

@@ -1,7 +1,7 @@
 // Document 01's soundness sentence, of what is set up: the book's head, securities, participants, baskets, spare rows.
 ghost use mathlib.Core.Bool.{true};
 ghost use mathlib.Core.Path.{_≡_};
-ghost use Prim.Native.Nat.{_<_, _+_};
+ghost use Prim.Native.Nat.{_<_, _≤_, _+_};
 ghost use lib.ListN.{length};
 ghost use lib.Dec.{eqb};
 ghost use Rattle.laws.specs.Search.{all};
@@ -9,10 +9,11 @@ ghost use Rattle.book.specs.Layout.{bookLength, tableCount, rowsOf};
 ghost use Rattle.book.specs.State.{state};
 ghost use Rattle.calendar.specs.Target.{openDay};
 ghost use Rattle.rules.specs.Sound.{between, openOrNone, soundHead, soundSecurity, soundProfile, soundParticipant, soundBasket, soundParties, basketNamed, same, alike, blank, isSpare};
-ghost use Rattle.sound_setup.specs.Bytes.{emptyBytes};
+ghost use Rattle.sound_setup.specs.Bytes.{emptyBytes, emptyRows};
 ghost use Rattle.sound_setup.specs.Days.{OpenDays};
 ghost use Rattle.sound_setup.specs.Keys.{keyPlace};
 ghost use Rattle.sound_setup.specs.Rows.{InRows};
+use book::layout;
 use book::layout::AGES;
 use book::layout::HAIRCUTS;
 use book::layout::LISTS;
@@ -23,6 +24,7 @@ use book::layout::NEXT_NUMBER;
 use book::layout::PARTIALS;
 use book::layout::PRICES;
 use book::layout::QUOTES;
+use book::layout::SPARES;
 use book::layout::TODAY;
 use book::layout::TOLERANCE;
 use book::layout::WAITING_LISTS;
@@ -39,22 +41,19 @@ pub fn is_between(low: u64, high: u64, x: u64) -> bool
     x <= high
 }
 
-// Is a closing day open, or none?
-pub fn is_open_or_none(day: u64) -> bool
-    ensures { λ r. ⌜ r ≡ openOrNone day ⌝ }
+// A place for a day among 16. A remainder by 16 would do as well, but makes the compiler load the day's last byte by itself.
+fn day_place(day: u64) -> usize
+    ensures { λ r. ⌜ r < 16 ⌝ }
 {
-    if day == 0 {
-        return true;
-    }
-    calendar::is_open(day)
+    (day % 4294967296 * 2654435761 / 268435456 % 16) as usize
 }
 
-// Is a day open? Some open days are at hand, each at its number modulo 16: most days of a book are one of a few.
+// Is a day open? Some open days are at hand, each at its place: most days of a book are one of a few.
 pub fn is_known_open(days: &[u64; 16], day: u64) -> bool
     requires { ⌜ OpenDays (now days) ⌝ }
     ensures { λ r. ⌜ r ≡ openDay day ⌝ }
 {
-    let place = (day % 16) as usize;
+    let place = day_place(day);
     if days[place] == day {
         return true;
     }
@@ -66,8 +65,29 @@ pub fn note_open(days: &mut [u64; 16], day: u64)
     requires { ⌜ OpenDays (now days) × (openDay day ≡ true) ⌝ }
     ensures { λ _. ⌜ OpenDays (now (days .exit)) ⌝ }
 {
-    let place = (day % 16) as usize;
+    let place = day_place(day);
     days[place] = day;
+}
+
+// Is a closing day open, or none?
+pub fn is_open_or_none(days: &[u64; 16], day: u64) -> bool
+    requires { ⌜ OpenDays (now days) ⌝ }
+    ensures { λ r. ⌜ r ≡ openOrNone day ⌝ }
+{
+    if day == 0 {
+        return true;
+    }
+    is_known_open(days, day)
+}
+
+// Puts a sound closing day among those at hand, where there is one.
+pub fn note_open_or_none(days: &mut [u64; 16], day: u64)
+    requires { ⌜ OpenDays (now days) × (openOrNone day ≡ true) ⌝ }
+    ensures { λ _. ⌜ OpenDays (now (days .exit)) ⌝ }
+{
+    if day != 0 {
+        note_open(days, day);
+    }
 }
 
 // Are all of some bytes 0? There is no way out on the way, so that the compiler takes sixteen bytes at a time.
@@ -81,6 +101,17 @@ pub fn are_empty(bytes: &[u8]) -> bool
         k += 1;
     }
     seen == 0
+}
+
+// Do rows of a table hold nothing? They are bytes in a row.
+pub fn are_rows_empty(book: &[u8], f: usize, start: usize, n: usize) -> bool
+    requires { ⌜ (length (now book) ≡ bookLength) × (f < tableCount) × (0 < n) × (start + n ≤ rowsOf f) ⌝ }
+    ensures { λ r. ⌜ r ≡ emptyRows (state (now (book .entry))) f start n ⌝ }
+{
+    let width = layout::width_of(f);
+    let from = layout::base_of(f) + width * start;
+    let to = from + width * n;
+    are_empty(&book[from..to])
 }
 
 // A place for the key of an exposure among 1,024: keys that share one cost time, and change no answer.
@@ -288,14 +319,12 @@ pub fn are_sound_baskets(book: &[u8]) -> bool
     true
 }
 
-// The spare rows hold nothing: they are the book's last bytes.
+// The spare rows hold nothing.
 pub fn are_sound_spares(book: &[u8]) -> bool
     requires { ⌜ length (now book) ≡ bookLength ⌝ }
     ensures { λ r. ⌜ r ≡ all (isSpare (state (now (book .entry)))) 589 0 ⌝ }
 {
-    let start: usize = 46796;
-    let end: usize = 49152;
-    are_empty(&book[start..end])
+    are_rows_empty(book, SPARES, 0, 589)
 }
 
 // Are a giver and a taker set up, and not the same?

@@ -33,7 +33,7 @@ fn are_requests_sound(book: &[u8]) -> bool
     if !sound_requests::are_sound_rows(book) {
         return false;
     }
-    sound_requests::are_distinct_numbers(book)
+    sound_numbers::are_distinct_numbers(book)
 }
 
 // Are the exposures and what they hold sound?
@@ -47,10 +47,7 @@ fn are_exposures_sound(book: &[u8]) -> bool
     if !sound_exposures::are_distinct_keys(book) {
         return false;
     }
-    if !sound_exposures::are_sound_positions(book) {
-        return false;
-    }
-    sound_exposures::are_sound_holdings(book)
+    sound_stocks::are_sound_stocks(book)
 }
 
 // Is a book of the right length sound?

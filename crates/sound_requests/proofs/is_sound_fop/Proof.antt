@@ -20,8 +20,8 @@ is-between-requires c κs = search needs
 returns-2 : tie.Need-returns-2
 returns-2 c = search fop-amount
 
-is-known-or-none-requires : tie.Need-is-known-or-none-requires
-is-known-or-none-requires c κs = search needs
+is-open-or-none-requires : tie.Need-is-open-or-none-requires
+is-open-or-none-requires c κs = search needs
 
 returns-3 : tie.Need-returns-3
 returns-3 c = search by-closing
@@ -35,5 +35,5 @@ is-sound-fop-spec =
     returns
     is-between-requires
     returns-2
-    is-known-or-none-requires
+    is-open-or-none-requires
     returns-3)

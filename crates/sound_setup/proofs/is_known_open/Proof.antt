@@ -5,6 +5,9 @@ use borrow.Author.Needs.{needs}
 use Rattle.sound_setup.proofs.is_known_open.Statement.{statement}
 use Rattle.sound_setup.proofs.is_known_open.Tie as tie
 
+day-place-requires : tie.Need-day-place-requires
+day-place-requires c κs = search needs
+
 mul-if1 : tie.Need-mul-if1
 mul-if1 c = search needs
 
@@ -22,4 +25,5 @@ returns-2 c = search needs
 
 pub is-known-open-spec : {M : Type 1} → statement M
 is-known-open-spec =
-    tie.close (tie.spec mul-if1 element-copy-out-if1 returns is-open-requires returns-2)
+    tie.close
+    (tie.spec day-place-requires mul-if1 element-copy-out-if1 returns is-open-requires returns-2)

@@ -8,11 +8,11 @@ use Rattle.sound_setup.proofs.is_open_or_none.Tie as tie
 returns : tie.Need-returns
 returns c = search no-day
 
-is-open-requires : tie.Need-is-open-requires
-is-open-requires c κs = search needs
+is-known-open-requires : tie.Need-is-known-open-requires
+is-known-open-requires c κs = search needs
 
 returns-2 : tie.Need-returns-2
 returns-2 c = search by-day
 
 pub is-open-or-none-spec : {M : Type 1} → statement M
-is-open-or-none-spec = tie.close (tie.spec returns is-open-requires returns-2)
+is-open-or-none-spec = tie.close (tie.spec returns is-known-open-requires returns-2)

@@ -1,6 +1,7 @@
 -- `soundness::are_exposures_sound` meets its contract.
 -- Assumes nothing.
 use Rattle.soundness.proofs.Ways.{first, after}
+use Rattle.sound_setup.proofs.Ways.{passed}
 use borrow.Author.Needs.{needs}
 use Rattle.soundness.proofs.are_exposures_sound.Statement.{statement}
 use Rattle.soundness.proofs.are_exposures_sound.Tie as tie
@@ -17,17 +18,11 @@ are-distinct-keys-requires c κs = search needs
 returns-2 : tie.Need-returns-2
 returns-2 c = after (c .before .before .before .are-sound-exposures .ensures) (c .before .before .if1 .left) (first (c .before .are-distinct-keys .ensures) _ (c .if2 .taken))
 
-are-sound-positions-requires : tie.Need-are-sound-positions-requires
-are-sound-positions-requires c κs = search needs
+are-sound-stocks-requires : tie.Need-are-sound-stocks-requires
+are-sound-stocks-requires c κs = (search needs, search passed)
 
 returns-3 : tie.Need-returns-3
-returns-3 c = after (c .before .before .before .before .before .are-sound-exposures .ensures) (c .before .before .before .before .if1 .left) (after (c .before .before .before .are-distinct-keys .ensures) (c .before .before .if2 .left) (first (c .before .are-sound-positions .ensures) _ (c .if3 .taken)))
-
-are-sound-holdings-requires : tie.Need-are-sound-holdings-requires
-are-sound-holdings-requires c κs = search needs
-
-returns-4 : tie.Need-returns-4
-returns-4 c = after (c .before .before .before .before .before .before .are-sound-exposures .ensures) (c .before .before .before .before .before .if1 .left) (after (c .before .before .before .before .are-distinct-keys .ensures) (c .before .before .before .if2 .left) (after (c .before .before .are-sound-positions .ensures) (c .before .if3 .left) (c .are-sound-holdings .ensures)))
+returns-3 c = after (c .before .before .before .before .are-sound-exposures .ensures) (c .before .before .before .if1 .left) (after (c .before .before .are-distinct-keys .ensures) (c .before .if2 .left) (c .are-sound-stocks .ensures))
 
 pub are-exposures-sound-spec : {M : Type 1} → statement M
 are-exposures-sound-spec =
@@ -37,7 +32,5 @@ are-exposures-sound-spec =
     returns
     are-distinct-keys-requires
     returns-2
-    are-sound-positions-requires
-    returns-3
-    are-sound-holdings-requires
-    returns-4)
+    are-sound-stocks-requires
+    returns-3)
