@@ -1,4 +1,3 @@
 pub mod Amounts
 pub mod Pairs
 pub mod Passes
-pub mod Ways

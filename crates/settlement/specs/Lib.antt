@@ -1,3 +1,2 @@
-pub mod Due
 pub mod Pairs
 pub mod Passes

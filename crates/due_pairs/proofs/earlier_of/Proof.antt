@@ -1,11 +1,11 @@
--- `settlement::earlier_of` meets its contract.
+-- `due_pairs::earlier_of` meets its contract.
 -- Assumes nothing.
 use native.Mathlib.Omega.{arith}
 use Rattle.book.specs.State.{state}
-use Rattle.settlement.proofs.Ways.{other-kind, not-after, not-ahead, not-due, now-due}
+use Rattle.due_pairs.proofs.Ways.{other-kind, not-after, not-ahead, not-due, now-due}
 use borrow.Author.Needs.{needs}
-use Rattle.settlement.proofs.earlier_of.Statement.{statement}
-use Rattle.settlement.proofs.earlier_of.Tie as tie
+use Rattle.due_pairs.proofs.earlier_of.Statement.{statement}
+use Rattle.due_pairs.proofs.earlier_of.Tie as tie
 
 get-requires : tie.Need-get-requires
 get-requires c κs = search needs

@@ -1,13 +1,13 @@
--- `settlement::order_of` meets its contract: day and number are of four bytes each.
+-- `due_pairs::order_of` meets its contract: day and number are of four bytes each.
 -- Assumes nothing.
 use native.Mathlib.Omega.{arith}
 use Rattle.book.proofs.Images.{state-fits}
 use Rattle.book.specs.State.{state}
-use Rattle.settlement.proofs.Ways.{Dated}
+use Rattle.due_pairs.proofs.Ways.{Dated}
 use Rattle.book.specs.Layout.{numbers, settlements}
 use borrow.Author.Needs.{needs}
-use Rattle.settlement.proofs.order_of.Statement.{statement}
-use Rattle.settlement.proofs.order_of.Tie as tie
+use Rattle.due_pairs.proofs.order_of.Statement.{statement}
+use Rattle.due_pairs.proofs.order_of.Tie as tie
 
 -- the two numbers are of four bytes each
 small : (k : tie.After-shared-slice-known) → Dated (state (k .before .args .book .now)) (k .before .args .i)

@@ -14,7 +14,7 @@ use Rattle.rules.specs.Requests.{isUsed, isPaired, isLive, partnerOf}
 use Rattle.rules.specs.Settlement.{orderOf, isDue}
 use Rattle.facts.proofs.Keeps.{Good}
 use Rattle.facts.proofs.Rows.{used-paired}
-use Rattle.settlement.specs.Due.{duePair, isAhead, earlierOf}
+use Rattle.due_pairs.specs.Due.{duePair, isAhead, earlierOf}
 
 -- a row's settlement day and number within four bytes
 pub record Dated (s : State) (i : ℕ) : Type 0 where

@@ -1,10 +1,10 @@
--- `settlement::is_ahead` meets its contract.
+-- `due_pairs::is_ahead` meets its contract.
 -- Assumes nothing.
 use borrow.Author.Tests.{eq-eqb, ne-eqb}
-use Rattle.settlement.specs.Due.{isAhead}
+use Rattle.due_pairs.specs.Due.{isAhead}
 use borrow.Author.Needs.{needs}
-use Rattle.settlement.proofs.is_ahead.Statement.{statement}
-use Rattle.settlement.proofs.is_ahead.Tie as tie
+use Rattle.due_pairs.proofs.is_ahead.Statement.{statement}
+use Rattle.due_pairs.proofs.is_ahead.Tie as tie
 
 returns : tie.Need-returns
 unfolding isAhead

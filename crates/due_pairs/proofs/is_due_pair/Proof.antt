@@ -1,10 +1,10 @@
--- `settlement::is_due_pair` meets its contract.
+-- `due_pairs::is_due_pair` meets its contract.
 -- Assumes nothing.
 use native.Mathlib.Omega.{arith}
-use Rattle.settlement.proofs.Ways.{no-number, no-partner, has-ended, is-whole, is-earlier, by-day, partner-row}
+use Rattle.due_pairs.proofs.Ways.{no-number, no-partner, has-ended, is-whole, is-earlier, by-day, partner-row}
 use borrow.Author.Needs.{needs}
-use Rattle.settlement.proofs.is_due_pair.Statement.{statement}
-use Rattle.settlement.proofs.is_due_pair.Tie as tie
+use Rattle.due_pairs.proofs.is_due_pair.Statement.{statement}
+use Rattle.due_pairs.proofs.is_due_pair.Tie as tie
 
 get-requires : tie.Need-get-requires
 get-requires c κs = search needs

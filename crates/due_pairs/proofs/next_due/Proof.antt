@@ -1,4 +1,4 @@
--- `settlement::next_due` meets its contract: the earliest of the rows below `i` is found.
+-- `due_pairs::next_due` meets its contract: the earliest of the rows below `i` is found.
 -- Assumes nothing.
 use mathlib.Core.Path.{_≡_, refl, _∙_}
 use Prim.Native.Nat.{_-_, _≤_}
@@ -6,10 +6,10 @@ use native.Mathlib.Omega.{arith}
 use Rattle.book.specs.State.{state}
 use Rattle.laws.specs.Search.{leastBy}
 use Rattle.rules.specs.Settlement.{orderOf, isDue}
-use Rattle.settlement.proofs.Ways.{earliest-next}
+use Rattle.due_pairs.proofs.Ways.{earliest-next}
 use borrow.Author.Needs.{needs}
-use Rattle.settlement.proofs.next_due.Statement.{statement}
-use Rattle.settlement.proofs.next_due.Tie as tie
+use Rattle.due_pairs.proofs.next_due.Statement.{statement}
+use Rattle.due_pairs.proofs.next_due.Tie as tie
 
 abbrev Inv-loop : tie.InvT-loop
 Inv-loop book kind last best₀ i₀ best i = (i ≤ 256) × (best ≤ 256) × (best ≡ leastBy (isDue (state book) kind last) (orderOf (state book)) 256 i)
