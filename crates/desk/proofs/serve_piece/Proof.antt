@@ -1,4 +1,4 @@
--- `desk::serve_piece` meets its contract: each record takes at least a byte, so that the lines are no more than the bytes taken.
+-- `desk::serve_piece` meets its contract: each batch takes at least a byte, and no more lines than bytes.
 -- Assumes nothing.
 use mathlib.Core.Path.{_≡_}
 use Prim.Native.Nat.{_+_, _-_, _≤_}
@@ -9,50 +9,38 @@ use Rattle.desk.proofs.serve_piece.Statement.{statement}
 use Rattle.desk.proofs.serve_piece.Tie as tie
 
 abbrev Inv-loop : tie.InvT-loop
-Inv-loop book₀ piece lines₀ place p₀ book lines p =
-    (p .taken ≤ length piece) × (p .place ≤ place + p .taken) × (p .waiting + 126 ≤ length lines) × (length book ≡ length book₀) × (length lines ≡ length lines₀)
+Inv-loop book₀ piece text₀ place p₀ book text p =
+    (p .taken ≤ length piece) × (p .place ≤ place + p .taken) × (length book ≡ length book₀) × (length text ≡ length text₀)
 
 abbrev μ-loop : tie.MeasureT-loop
-μ-loop book₀ piece lines₀ place p₀ book lines p = length piece - p .taken
+μ-loop book₀ piece text₀ place p₀ book text p = length piece - p .taken
 
 loop-holds : tie.Need-loop-holds Inv-loop μ-loop
 loop-holds c = search needs
 
-sub-first-record : tie.Need-sub-first-record Inv-loop μ-loop
-sub-first-record c = search needs
+sub-serve-batch : tie.Need-sub-serve-batch Inv-loop μ-loop
+sub-serve-batch c = search needs
 
-part-first-record-start : tie.Need-part-first-record-start Inv-loop μ-loop
-part-first-record-start c = search needs
+part-serve-batch-start : tie.Need-part-serve-batch-start Inv-loop μ-loop
+part-serve-batch-start c = search needs
 
-part-first-record-end : tie.Need-part-first-record-end Inv-loop μ-loop
-part-first-record-end c = search needs
+part-serve-batch-end : tie.Need-part-serve-batch-end Inv-loop μ-loop
+part-serve-batch-end c = search needs
 
-first-record-requires : tie.Need-first-record-requires Inv-loop μ-loop
-first-record-requires c κs = search needs
+serve-batch-requires : tie.Need-serve-batch-requires Inv-loop μ-loop
+serve-batch-requires c κs = search needs
 
-add-end : tie.Need-add-end Inv-loop μ-loop
-add-end c = search needs
+add-t12 : tie.Need-add-t12 Inv-loop μ-loop
+add-t12 c = search needs
 
-sub-serve-record : tie.Need-sub-serve-record Inv-loop μ-loop
-sub-serve-record c = search needs
-
-part-serve-record-start : tie.Need-part-serve-record-start Inv-loop μ-loop
-part-serve-record-start c = search needs
-
-part-serve-record-end : tie.Need-part-serve-record-end Inv-loop μ-loop
-part-serve-record-end c = search needs
-
-serve-record-requires : tie.Need-serve-record-requires Inv-loop μ-loop
-serve-record-requires c κs = search needs
+write-text-requires : tie.Need-write-text-requires Inv-loop μ-loop
+write-text-requires c κs = search needs
 
 loop-less : tie.Need-loop-less Inv-loop μ-loop
 loop-less c = search needs
 
 loop-again : tie.Need-loop-again Inv-loop μ-loop
 loop-again c = search needs
-
-write-lines-requires : tie.Need-write-lines-requires Inv-loop μ-loop
-write-lines-requires c κs = search needs
 
 same-length : tie.Need-same-length Inv-loop μ-loop
 same-length c = search needs
@@ -63,6 +51,15 @@ same-length-2 c = search needs
 returns : tie.Need-returns Inv-loop μ-loop
 returns c = search needs
 
+same-length-3 : tie.Need-same-length-3 Inv-loop μ-loop
+same-length-3 c = search needs
+
+same-length-4 : tie.Need-same-length-4 Inv-loop μ-loop
+same-length-4 c = search needs
+
+returns-2 : tie.Need-returns-2 Inv-loop μ-loop
+returns-2 c = search needs
+
 pub serve-piece-spec : {M : Type 1} → statement M
 serve-piece-spec =
     tie.close
@@ -70,18 +67,17 @@ serve-piece-spec =
     Inv-loop
     μ-loop
     loop-holds
-    sub-first-record
-    part-first-record-start
-    part-first-record-end
-    first-record-requires
-    add-end
-    sub-serve-record
-    part-serve-record-start
-    part-serve-record-end
-    serve-record-requires
+    sub-serve-batch
+    part-serve-batch-start
+    part-serve-batch-end
+    serve-batch-requires
+    add-t12
+    write-text-requires
     loop-less
     loop-again
-    write-lines-requires
     same-length
     same-length-2
-    returns)
+    returns
+    same-length-3
+    same-length-4
+    returns-2)

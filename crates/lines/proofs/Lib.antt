@@ -1,0 +1,4 @@
+pub mod Cuts
+pub mod Numerals
+pub mod Serving
+pub mod Texts
