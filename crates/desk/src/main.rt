@@ -1,10 +1,11 @@
 // The desk's program (document 01, "The program's lines"): reads standard input piece by piece and writes what the crate `lines`
 // makes of it. What a record's call leaves and what its line says are promises of that crate.
-// Proved here: the program is safe and ends, and stays within its buffers. What is read and written no contract can say: that is
-// tested, on stdin and stdout beside src/ and by tests/tests/lines.rs.
+// Proved here: the program is safe and ends, stays within its buffers, and serves each piece whole, one batch after the other. What
+// is read and written no contract can say: that is tested, on stdin and stdout beside src/ and by tests/tests/lines.rs.
 ghost use mathlib.Core.Path.{_≡_};
 ghost use Prim.Native.Nat.{_+_, _≤_, _<_};
 ghost use lib.ListN.{length, take, drop};
+ghost use Rattle.lines.specs.Lines.{servedAll};
 use answers::MALFORMED;
 use libc::STDIN_FILENO;
 use libc::STDOUT_FILENO;
@@ -34,29 +35,39 @@ fn write_text(text: &[u8], waiting: usize) -> bool
     io::write_all(STDOUT_FILENO, &text[..waiting])
 }
 
+// Writes the first bytes of a text where all before were written; false where that fails.
+fn write_behind(is_written: bool, text: &[u8], waiting: usize) -> bool
+    requires { ⌜ waiting ≤ length (now text) ⌝ }
+{
+    if !is_written {
+        return false;
+    }
+    write_text(text, waiting)
+}
+
 // Serves the whole records at the front of a piece, and writes the lines of each batch before the next is served.
 fn serve_piece(book: &mut [u8], piece: &[u8], text: &mut [u8], place: u64) -> Progress
-    requires { ⌜ place + length (now piece) < 18446744073709551616 ⌝ }
+    requires { ⌜ (126 ≤ length (now text)) × (place + length (now piece) < 18446744073709551616) ⌝ }
     ensures { λ r. ⌜ (r .taken ≤ length (now (piece .entry))) × (r .place ≤ place + r .taken) ⌝ }
+    ensures { λ r. ⌜ (now (book .exit) ≡ servedAll (now (book .entry)) (now (piece .entry)) place .book) × (r .taken ≡ servedAll (now (book .entry)) (now (piece .entry)) place .taken) × (r .place ≡ servedAll (now (book .entry)) (now (piece .entry)) place .place) ⌝ }
 {
     let mut p = Progress {
         place,
         taken: 0,
         is_written: true,
     };
-    while p.is_written {
+    loop {
         let at = p.taken;
         let batch = lines::serve_batch(book, &piece[at..], text, p.place);
         if batch.taken == 0 {
-            break;
+            return p;
         }
         p = Progress {
             place: batch.place,
             taken: at + batch.taken,
-            is_written: write_text(text, batch.waiting),
+            is_written: write_behind(p.is_written, text, batch.waiting),
         };
     }
-    p
 }
 
 // Reads once, behind the bytes held; answers how many bytes are then held: no more than before at the end of the input, and
@@ -86,7 +97,7 @@ fn move_to_front(input: &mut [u8], from: usize, end: usize) -> usize
 
 // Reads a piece and serves it. An unknown kind, the input's end or a write that fails closes the session.
 fn serve_some(book: &mut [u8], input: &mut [u8], text: &mut [u8], s: Session) -> Session
-    requires { ⌜ (length (now input) ≤ 65536) × (s .held ≤ length (now input)) × (s .place + 65536 < 18446744073709551616) ⌝ }
+    requires { ⌜ (length (now input) ≤ 65536) × (126 ≤ length (now text)) × (s .held ≤ length (now input)) × (s .place + 65536 < 18446744073709551616) ⌝ }
     ensures { λ r. ⌜ (r .held ≤ length (now (input .entry))) × (r .place ≤ s .place + 65536) ⌝ }
 {
     let held = s.held;

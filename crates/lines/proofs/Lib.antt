@@ -1,3 +1,4 @@
+pub mod Batches
 pub mod Cuts
 pub mod Numerals
 pub mod Serving

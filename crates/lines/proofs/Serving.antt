@@ -21,22 +21,23 @@ module _ (n : ℕ) (fits : ℕ → Bool) (w : ℕ) (b piece : List ℕ) (place :
   unfolding servedWhile
   served-more h f = rw (lt-ltb 0 (firstRecord piece) h, f)
 
--- no record stands at the front, or a next line may not fit
-pub no-more : (n : ℕ) (fits : ℕ → Bool) (w : ℕ) (b piece : List ℕ) (place : ℕ) → 0 ≡ firstRecord piece → servedWhile n fits w b piece place ≡ served b [] 0 place
+-- nothing is served where no record stands at the front, or a next line may not fit
+pub not-served : (n : ℕ) (fits : ℕ → Bool) (w : ℕ) (b piece : List ℕ) (place : ℕ) → (ltb 0 (firstRecord piece) && fits w) ≡ false → servedWhile n fits w b piece place ≡ served b [] 0 place
 unfolding servedWhile
-no-more zero fits w b piece place h = refl
-no-more (suc n) fits w b piece place h = rw (le-ltb 0 (firstRecord piece) (omega arith))
+not-served zero fits w b piece place h = refl
+not-served (suc n) fits w b piece place h = rw h
+
+and-false : (t : Bool) → (t && false) ≡ false
+and-false true = refl
+and-false false = refl
+
+pub no-more : (n : ℕ) (fits : ℕ → Bool) (w : ℕ) (b piece : List ℕ) (place : ℕ) → 0 ≡ firstRecord piece → servedWhile n fits w b piece place ≡ served b [] 0 place
+no-more n fits w b piece place h = not-served n fits w b piece place (rw (le-ltb 0 (firstRecord piece) (omega arith)))
 
 pub no-room : (n : ℕ) (fits : ℕ → Bool) (w : ℕ) (b piece : List ℕ) (place : ℕ) → fits w ≡ false → servedWhile n fits w b piece place ≡ served b [] 0 place
-unfolding servedWhile
-no-room zero fits w b piece place h = refl
-no-room (suc n) fits w b piece place h = rw (h, and-false (ltb 0 (firstRecord piece)))
-  where
-    and-false : (t : Bool) → (t && false) ≡ false
-    and-false true = refl
-    and-false false = refl
+no-room n fits w b piece place h = not-served n fits w b piece place (rw h (and-false (ltb 0 (firstRecord piece))))
 
-before-before : (s t : List ℕ) (m n : ℕ) (r : Served) → before s m (before t n r) ≡ before (s ++ t) (m + n) r
+pub before-before : (s t : List ℕ) (m n : ℕ) (r : Served) → before s m (before t n r) ≡ before (s ++ t) (m + n) r
 before-before s t m n r = rw (append-assoc s t (r .text), add-assoc m n (r .taken))
 
 -- what holds after some records: the text so far is put, and what the whole piece leaves is what the rest leaves behind it

@@ -27,7 +27,7 @@ slice-aggregate-serve-piece c =
 serve-piece-requires : tie.Need-serve-piece-requires
 serve-piece-requires c κs =
     let read = c .before .before .before .before .before .before .read-more in
-    omega (arith, length-take-le (read .result) (read .last .0) (omega arith))
+    (omega arith, omega (arith, length-take-le (read .result) (read .last .0) (omega arith)))
 
 same-length-2 : tie.Need-same-length-2
 same-length-2 c = search needs
