@@ -23,7 +23,7 @@ step() {
 }
 
 # Two crates at a time; a static library by itself takes one after the other.
-step "rt check engine reads" rt check engine reads
+step "rt check engine reads desk" rt check engine reads desk
 
 for library in calendar valuation baskets picking records reads engine; do
     step "rt staticlib $library" rt staticlib "$library"

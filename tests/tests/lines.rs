@@ -1,5 +1,10 @@
-//! Document 01, The program's lines, by the second program and by the desk under test. (The program
-//! `desk` itself runs on the document's input in the gate: crates/desk/stdin and stdout.)
+//! Document 01, The program's lines, by the second program, by the desk under test and by the program
+//! `desk` itself, target/bin/desk, which `rt check desk` writes.
+
+use std::io::Write;
+use std::path::Path;
+use std::process::{Command, Stdio};
+use std::thread;
 
 use yordzepa_tests::desk::under_test;
 use yordzepa_tests::lists::{list, Call, Theme};
@@ -13,12 +18,67 @@ fn record(kind: u64, fields: &[u64]) -> Vec<u8> {
     write(kind, fields, length).expect("a legal record")
 }
 
-/// The lines of both, which have to be the same.
+/// The lines of the second program and of the desk under test, which have to be the same.
 fn run(input: &[u8]) -> Vec<String> {
     let found = lines::run(input);
     let mut desk = under_test();
     assert_eq!(run_on(input, |record| desk.call(record)), found);
     found
+}
+
+/// What the program writes. The input is handed over in parts of a size, so that reads end within records.
+fn output_of_program(input: &[u8], part: usize) -> Vec<u8> {
+    let path = Path::new(env!("CARGO_MANIFEST_DIR")).join("../target/bin/desk");
+    let mut program = Command::new(&path)
+        .stdin(Stdio::piped())
+        .stdout(Stdio::piped())
+        .spawn()
+        .unwrap_or_else(|error| panic!("{}: {error}: run `rt check desk` in the root", path.display()));
+    let mut stdin = program.stdin.take().expect("a pipe");
+    let input = input.to_vec();
+    let writer = thread::spawn(move || {
+        // The program ends at an unknown record, and what comes behind it may find no reader.
+        for bytes in input.chunks(part) {
+            if stdin.write_all(bytes).is_err() {
+                return;
+            }
+        }
+    });
+    let output = program.wait_with_output().expect("the program's output");
+    writer.join().expect("the writer");
+    assert!(output.status.success(), "{}", output.status);
+    output.stdout
+}
+
+/// The program's whole output against the second program's lines; gives how many there are.
+fn run_program(input: &[u8], part: usize) -> usize {
+    let lines = lines::run(input);
+    let expected: String = lines.iter().map(|line| format!("{line}\n")).collect();
+    let found = output_of_program(input, part);
+    if found != expected.as_bytes() {
+        let found = String::from_utf8_lossy(&found);
+        let place = expected.lines().zip(found.lines()).position(|(e, f)| e != f);
+        let at = place.unwrap_or(expected.lines().count().min(found.lines().count()));
+        panic!(
+            "line {} of {}: {:?}, expected {:?}",
+            at + 1,
+            lines.len(),
+            found.lines().nth(at),
+            expected.lines().nth(at)
+        );
+    }
+    lines.len()
+}
+
+/// An opening, a security, a participant, and many deposits.
+fn deposits(count: usize) -> Vec<u8> {
+    let mut input = record(0, &[1, 10000]);
+    input.extend(record(1, &[0, 1000, 1000000, 500, 1]));
+    input.extend(record(2, &[1, 2, 0, 1]));
+    for nominal in 0..count as u64 {
+        input.extend(record(4, &[1, 0, nominal % 5_000 + 1]));
+    }
+    input
 }
 
 /// "Input, fields in order".
@@ -135,4 +195,74 @@ fn longer_inputs_are_answered_alike() {
         }
     }
     assert!(count > 10_000, "{count} lines");
+}
+
+#[test]
+fn the_program_writes_the_documents_output() {
+    let expected: String = DOCUMENT_OUTPUT.iter().map(|line| format!("{line}\n")).collect();
+    assert_eq!(output_of_program(&document_input(), 1 << 20), expected.as_bytes());
+}
+
+#[test]
+fn the_program_ends_at_cuts_and_unknown_kinds() {
+    let whole = document_input();
+    for length in 0..=whole.len() {
+        run_program(&whole[..length], 1 << 20);
+    }
+    for kind in 13..=255 {
+        let input = [&whole[..], &[kind], &whole[..]].concat();
+        assert_eq!(run_program(&input, 1 << 20), 13);
+    }
+}
+
+/// Inputs of several of the program's reads, which hold 65,536 bytes, handed over in parts of many sizes.
+#[test]
+fn the_program_reads_on_across_pieces() {
+    let whole = deposits(30_000);
+    assert!(whole.len() > 3 * 65_536);
+    for part in [1 << 20, 65_536, 65_535, 4_096, 4_095, 1_001] {
+        assert_eq!(run_program(&whole, part), 30_003);
+    }
+    for length in [65_535, 65_536, 65_537, 131_071, 131_072, 131_073, whole.len() - 1] {
+        run_program(&whole[..length], 1 << 20);
+    }
+    for place in [65_536, 100_000, 131_072] {
+        let place = place - (place - 33) % 7;
+        let input = [&whole[..place], &[200], &whole[place..]].concat();
+        let count = run_program(&input, 1 << 20);
+        assert_eq!(count, 3 + (place - 33) / 7 + 1);
+    }
+}
+
+/// One byte a record: the lines are many times as long as the input, so that they are written in the middle of a piece.
+#[test]
+fn the_program_writes_when_lines_fill_up() {
+    let mut refused = vec![9; 70_000];
+    assert_eq!(run_program(&refused, 1 << 20), 70_000);
+    refused.push(77);
+    assert_eq!(run_program(&refused, 1 << 20), 70_001);
+    let mut input = document_input();
+    input.extend(vec![9; 5_000]);
+    input.extend(vec![12; 3_000]);
+    input.extend(vec![10; 3_000]);
+    assert_eq!(run_program(&input, 1 << 20), 11_012);
+}
+
+#[test]
+fn the_program_answers_longer_inputs_alike() {
+    let mut random = Random::new(0x22e5);
+    let mut count = 0;
+    for theme in Theme::ALL {
+        let mut input = Vec::new();
+        for seed in 301..=302 {
+            for call in list(theme, seed, 300).calls {
+                if let Call::Record(bytes) = call {
+                    input.extend(bytes);
+                }
+            }
+        }
+        let cut = random.below(input.len() as u64 + 1) as usize;
+        count += run_program(&input, 1 << 20) + run_program(&input[cut..], 999) + run_program(&input[..cut], 1 << 20);
+    }
+    assert!(count > 3_000, "{count} lines");
 }

@@ -9,11 +9,11 @@ use Rattle.desk.proofs.serve.Statement.{statement}
 use Rattle.desk.proofs.serve.Tie as tie
 
 abbrev Inv-loop : tie.InvT-loop
-Inv-loop book₀ input₀ lines₀ s₀ reads₀ t7 book input lines s reads =
-    (s .held ≤ length input) × (s .place + 65536 * reads ≤ 18446744073709486080) × (length book ≡ length book₀) × (length input ≡ length input₀) × (length lines ≡ length lines₀)
+Inv-loop book₀ input₀ text₀ s₀ reads₀ t7 book input text s reads =
+    (s .held ≤ length input) × (s .place + 65536 * reads ≤ 18446744073709486080) × (length book ≡ length book₀) × (length input ≡ length input₀) × (length text ≡ length text₀)
 
 abbrev μ-loop : tie.MeasureT-loop
-μ-loop book₀ input₀ lines₀ s₀ reads₀ t7 book input lines s reads = reads
+μ-loop book₀ input₀ text₀ s₀ reads₀ t7 book input text s reads = reads
 
 loop-holds : tie.Need-loop-holds Inv-loop μ-loop
 loop-holds c = search needs
@@ -39,8 +39,8 @@ slice-read-put-line c = search needs
 put-line-requires : tie.Need-put-line-requires Inv-loop μ-loop
 put-line-requires c κs = search needs
 
-write-lines-requires : tie.Need-write-lines-requires Inv-loop μ-loop
-write-lines-requires c κs = search needs
+write-text-requires : tie.Need-write-text-requires Inv-loop μ-loop
+write-text-requires c κs = search needs
 
 same-length : tie.Need-same-length Inv-loop μ-loop
 same-length c = search needs
@@ -80,7 +80,7 @@ serve-spec =
     add-put-line
     slice-read-put-line
     put-line-requires
-    write-lines-requires
+    write-text-requires
     same-length
     same-length-2
     same-length-3

@@ -1,58 +1,35 @@
--- `desk::serve_piece` meets its contract: each record takes at least a byte, so that the lines are no more than the bytes taken.
+-- `desk::serve_piece` meets its contract: the batches so far and what the rest leaves are what the whole piece leaves.
 -- Assumes nothing.
-use mathlib.Core.Path.{_≡_}
-use Prim.Native.Nat.{_+_, _-_, _≤_}
+use mathlib.Core.Path.{_≡_, refl, sym, _∙_}
+use Prim.Native.Nat.{_-_}
 use native.Mathlib.Omega.{arith}
 use lib.ListN.{length}
 use borrow.Author.Needs.{needs}
+use Rattle.lines.proofs.Batches.{Batched, batches-begin, batches-go-on, batches-end}
+use Rattle.lines.proofs.Serving.{rest-of}
 use Rattle.desk.proofs.serve_piece.Statement.{statement}
 use Rattle.desk.proofs.serve_piece.Tie as tie
 
 abbrev Inv-loop : tie.InvT-loop
-Inv-loop book₀ piece lines₀ place p₀ book lines p =
-    (p .taken ≤ length piece) × (p .place ≤ place + p .taken) × (p .waiting + 126 ≤ length lines) × (length book ≡ length book₀) × (length lines ≡ length lines₀)
+Inv-loop book₀ piece text₀ place p₀ book text p = (length book ≡ length book₀) × (length text ≡ length text₀) × Batched piece book₀ place book (p .place) (p .taken)
 
 abbrev μ-loop : tie.MeasureT-loop
-μ-loop book₀ piece lines₀ place p₀ book lines p = length piece - p .taken
+μ-loop book₀ piece text₀ place p₀ book text p = length piece - p .taken
 
 loop-holds : tie.Need-loop-holds Inv-loop μ-loop
-loop-holds c = search needs
+loop-holds c = (refl, refl, batches-begin _ _ _)
 
-sub-first-record : tie.Need-sub-first-record Inv-loop μ-loop
-sub-first-record c = search needs
+sub-serve-batch : tie.Need-sub-serve-batch Inv-loop μ-loop
+sub-serve-batch c = search needs
 
-part-first-record-start : tie.Need-part-first-record-start Inv-loop μ-loop
-part-first-record-start c = search needs
+part-serve-batch-start : tie.Need-part-serve-batch-start Inv-loop μ-loop
+part-serve-batch-start c = search needs
 
-part-first-record-end : tie.Need-part-first-record-end Inv-loop μ-loop
-part-first-record-end c = search needs
+part-serve-batch-end : tie.Need-part-serve-batch-end Inv-loop μ-loop
+part-serve-batch-end c = search needs
 
-first-record-requires : tie.Need-first-record-requires Inv-loop μ-loop
-first-record-requires c κs = search needs
-
-add-end : tie.Need-add-end Inv-loop μ-loop
-add-end c = search needs
-
-sub-serve-record : tie.Need-sub-serve-record Inv-loop μ-loop
-sub-serve-record c = search needs
-
-part-serve-record-start : tie.Need-part-serve-record-start Inv-loop μ-loop
-part-serve-record-start c = search needs
-
-part-serve-record-end : tie.Need-part-serve-record-end Inv-loop μ-loop
-part-serve-record-end c = search needs
-
-serve-record-requires : tie.Need-serve-record-requires Inv-loop μ-loop
-serve-record-requires c κs = search needs
-
-loop-less : tie.Need-loop-less Inv-loop μ-loop
-loop-less c = search needs
-
-loop-again : tie.Need-loop-again Inv-loop μ-loop
-loop-again c = search needs
-
-write-lines-requires : tie.Need-write-lines-requires Inv-loop μ-loop
-write-lines-requires c κs = search needs
+serve-batch-requires : tie.Need-serve-batch-requires Inv-loop μ-loop
+serve-batch-requires c κs = search needs
 
 same-length : tie.Need-same-length Inv-loop μ-loop
 same-length c = search needs
@@ -61,7 +38,35 @@ same-length-2 : tie.Need-same-length-2 Inv-loop μ-loop
 same-length-2 c = search needs
 
 returns : tie.Need-returns Inv-loop μ-loop
-returns c = search needs
+returns c =
+    let s = c .before .before .before .before .before .before .before .before .before .before .before .before .before .before in
+    let l = c .before .before .before .before .before .before .before .before .before .before .loop in
+    let w = l .inv .2 in
+    let batch = c .before .before .before .before .before .before .serve-batch in
+    let rest = rest-of (s .args .piece .now) (l .p .taken) in
+    let none = sym (c .if1 .taken) ∙ (rw rest at (batch .ensures .1 .1 .1 .0 .0)) in
+    let e = batches-end w (length (l .text)) (batch .last .0) (rw rest at (batch .ensures .0)) (omega (arith, l .inv .1, s .pre .0)) none in
+    ((w .inside, w .counted), (e .0, e .1, e .2))
+
+add-t11 : tie.Need-add-t11 Inv-loop μ-loop
+add-t11 c = search needs
+
+write-behind-requires : tie.Need-write-behind-requires Inv-loop μ-loop
+write-behind-requires c κs = search needs
+
+loop-less : tie.Need-loop-less Inv-loop μ-loop
+loop-less c = search needs
+
+loop-again : tie.Need-loop-again Inv-loop μ-loop
+loop-again c =
+    let s = c .before .before .before .before .before .before .before .before .before .before .before .before .before .before .before .before .before in
+    let l = c .before .before .before .before .before .before .before .before .before .before .before .before .before .loop in
+    let batch = c .before .before .before .before .before .before .before .before .before .serve-batch in
+    let rest = rest-of (s .args .piece .now) (l .p .taken) in (
+      search needs,
+      search needs,
+      batches-go-on (l .inv .2) (length (l .text)) (batch .last .0) (rw rest at (batch .ensures .0)) (batch .result .place) (batch .result .taken) (rw rest at (batch .ensures .1 .1 .1 .0 .0)) (rw rest at (batch .ensures .1 .1 .1 .0 .1)) (batch .ensures .1 .1 .1 .1 .2) (rw rest at (batch .ensures .1 .1 .1 .1 .0)),
+    )
 
 pub serve-piece-spec : {M : Type 1} → statement M
 serve-piece-spec =
@@ -70,18 +75,14 @@ serve-piece-spec =
     Inv-loop
     μ-loop
     loop-holds
-    sub-first-record
-    part-first-record-start
-    part-first-record-end
-    first-record-requires
-    add-end
-    sub-serve-record
-    part-serve-record-start
-    part-serve-record-end
-    serve-record-requires
-    loop-less
-    loop-again
-    write-lines-requires
+    sub-serve-batch
+    part-serve-batch-start
+    part-serve-batch-end
+    serve-batch-requires
     same-length
     same-length-2
-    returns)
+    returns
+    add-t11
+    write-behind-requires
+    loop-less
+    loop-again)

@@ -1,10 +1,10 @@
--- `desk::first_record` meets its contract.
+-- `lines::first_record` meets its contract.
 -- Assumes nothing.
 use native.Mathlib.Omega.{arith}
 use borrow.Author.Needs.{needs}
-use Rattle.desk.proofs.Cuts.{no-record, whole-record, cut-record}
-use Rattle.desk.proofs.first_record.Statement.{statement}
-use Rattle.desk.proofs.first_record.Tie as tie
+use Rattle.lines.proofs.Cuts.{no-record, whole-record, cut-record}
+use Rattle.lines.proofs.first_record.Statement.{statement}
+use Rattle.lines.proofs.first_record.Tie as tie
 
 returns : tie.Need-returns
 returns c = (search no-record, omega arith)

@@ -1,10 +1,10 @@
--- `desk::length_of` meets its contract.
+-- `lines::length_of` meets its contract.
 -- Assumes nothing.
 use native.Mathlib.Omega.{arith}
 use borrow.Author.Needs.{needs}
-use Rattle.desk.proofs.Cuts.{known-length, unknown-length}
-use Rattle.desk.proofs.length_of.Statement.{statement}
-use Rattle.desk.proofs.length_of.Tie as tie
+use Rattle.lines.proofs.Cuts.{known-length, unknown-length}
+use Rattle.lines.proofs.length_of.Statement.{statement}
+use Rattle.lines.proofs.length_of.Tie as tie
 
 wide-requires : tie.Need-wide-requires
 wide-requires c κs = search needs

@@ -1,15 +1,17 @@
--- `desk::put_digits` meets its contract: the bytes put so far lie within the 20 that are free.
+-- `lines::put_digits` meets its contract: after i digits, the first i are put.
 -- Assumes nothing.
 use mathlib.Core.Path.{_≡_, refl}
 use Prim.Native.Nat.{_-_, _≤_}
 use native.Mathlib.Omega.{arith}
-use lib.ListN.{length}
+use lib.ListN.{length, take, length-set}
 use borrow.Author.Needs.{needs}
-use Rattle.desk.proofs.put_digits.Statement.{statement}
-use Rattle.desk.proofs.put_digits.Tie as tie
+use Rattle.lines.specs.Lines.{put}
+use Rattle.lines.proofs.Texts.{put-none, put-digit}
+use Rattle.lines.proofs.put_digits.Statement.{statement}
+use Rattle.lines.proofs.put_digits.Tie as tie
 
 abbrev Inv-loop : tie.InvT-loop
-Inv-loop lines₀ at count digits i₀ lines i = (i ≤ count) × (count ≤ 20) × (length lines ≡ length lines₀)
+Inv-loop lines₀ at count digits i₀ lines i = (i ≤ count) × (count ≤ 20) × (length digits ≡ 20) × (length lines ≡ length lines₀) × (lines ≡ put lines₀ at (take i digits))
 
 abbrev μ-loop : tie.MeasureT-loop
 μ-loop lines₀ at count digits i₀ lines i = count - i
@@ -17,7 +19,7 @@ abbrev μ-loop : tie.MeasureT-loop
 loop-holds : tie.Need-loop-holds Inv-loop μ-loop
 loop-holds c =
     let sized : length (c .args .t3) ≡ 20 = search needs in
-    (omega arith, omega arith, refl)
+    (omega arith, omega arith, sized, refl, put-none (c .args .lines .now) (c .args .at))
 
 array-read-lines : tie.Need-array-read-lines Inv-loop μ-loop
 array-read-lines c = search needs
@@ -35,7 +37,10 @@ loop-less : tie.Need-loop-less Inv-loop μ-loop
 loop-less c = search needs
 
 loop-again : tie.Need-loop-again Inv-loop μ-loop
-loop-again c = search needs
+loop-again c =
+    let s = c .before .before .args in
+    let l = c .before .loop in
+    (omega arith, omega arith, l .inv .2, simp length-set (l .inv .3), rw (l .inv .4) (put-digit (s .lines .now) (s .t3) (s .at) (l .i) (omega arith) (omega arith)))
 
 add-result : tie.Need-add-result Inv-loop μ-loop
 add-result c = search needs
@@ -44,7 +49,9 @@ same-length : tie.Need-same-length Inv-loop μ-loop
 same-length c = search needs
 
 returns : tie.Need-returns Inv-loop μ-loop
-returns c = search needs
+returns c =
+    let all : c .before .loop .i ≡ c .before .before .args .count = omega arith in
+    (omega arith, omega arith, rw (← all) (c .before .loop .inv .4))
 
 pub put-digits-spec : {M : Type 1} → statement M
 put-digits-spec =

@@ -9,7 +9,7 @@ use lib.Dec.{ltb}
 use lib.ListN.{length, getD}
 use borrow.Author.Tests.{lt-ltb, le-ltb, le-leb, lt-leb}
 use Rattle.records.specs.Kinds.{lengthOf}
-use Rattle.desk.specs.Cuts.{recordLength, firstRecord, isAwaited}
+use Rattle.lines.specs.Cuts.{recordLength, firstRecord, isAwaited}
 
 pub known-length : (k : ℕ) {n : ℕ} → k < 13 → n ≡ lengthOf k → n ≡ recordLength k
 unfolding recordLength

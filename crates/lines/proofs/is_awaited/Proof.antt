@@ -1,9 +1,9 @@
--- `desk::is_awaited` meets its contract.
+-- `lines::is_awaited` meets its contract.
 -- Assumes nothing.
 use borrow.Author.Needs.{needs}
-use Rattle.desk.proofs.Cuts.{none-awaited, kind-awaited}
-use Rattle.desk.proofs.is_awaited.Statement.{statement}
-use Rattle.desk.proofs.is_awaited.Tie as tie
+use Rattle.lines.proofs.Cuts.{none-awaited, kind-awaited}
+use Rattle.lines.proofs.is_awaited.Statement.{statement}
+use Rattle.lines.proofs.is_awaited.Tie as tie
 
 returns : tie.Need-returns
 returns c = search none-awaited
