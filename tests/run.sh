@@ -22,12 +22,27 @@ step() {
     fi
 }
 
-# Two crates at a time; a static library by itself takes one after the other.
-step "rt check engine reads desk" rt check engine reads desk
-
-for library in calendar valuation baskets picking records reads engine; do
-    step "rt staticlib $library" rt staticlib "$library"
-done
+# The engine with all below it; then the libraries, each of which `rt staticlib` proves once more on one core, and beside them the
+# program with one library in a copy, since two of rt's runs in one folder disturb each other.
+libraries() {
+    for library in "$@"; do
+        rt staticlib "$library" || return 1
+    done
+}
+program_and_reads() {
+    mkdir "$work/copy" && cp -r crates crates.txt target "$work/copy" && cd "$work/copy" && rt check desk && libraries reads
+}
+program_and_libraries() {
+    program_and_reads >"$work/beside" 2>&1 &
+    beside=$!
+    libraries engine records picking calendar baskets valuation || { kill "$beside"; return 1; }
+    wait "$beside" || { cat "$work/beside"; return 1; }
+    mkdir -p target/bin
+    cp "$work/copy/target/bin/desk" target/bin/desk
+    cp "$work/copy/target/staticlib/libreads.a" target/staticlib/libreads.a
+}
+step "rt check engine" rt check engine
+step "rt check desk, rt staticlib of seven crates" program_and_libraries
 
 step "one library of them all" make -s build/libyordzepa.a
 step "header against the library" sh tests/header-check.sh
@@ -50,11 +65,18 @@ step "compile tests/guard.c" \
     -Iinclude tests/guard.c build/libyordzepa.a -o "$work/guard"
 step "sanitizers around lent memory" "$work/guard"
 
+# The operator's tool, all but what measures time, which `make test-tool` adds; beside it the comparisons.
+sh tests/tool/run.sh gate >"$work/tool" 2>&1 &
+tool=$!
+trap 'kill "$tool" 2>/dev/null; rm -rf "$work"' EXIT
+
 for file in tests/tests/*.rs; do
     library=$(basename "$file" .rs)
     step "second program: $library" \
         cargo test --release --offline --locked --quiet --manifest-path tests/Cargo.toml --features engine --test "$library"
 done
 
-# The operator's tool: all but what measures time, which `make test-tool` adds.
-sh tests/tool/run.sh gate
+status=0
+wait "$tool" || status=$?
+cat "$work/tool"
+exit "$status"
