@@ -73,7 +73,10 @@ trap 'kill "$tool" 2>/dev/null || :; rm -rf "$work"' EXIT
 for file in tests/tests/*.rs; do
     library=$(basename "$file" .rs)
     step "second program: $library" \
-        cargo test --release --offline --locked --quiet --manifest-path tests/Cargo.toml --features engine --test "$library"
+        cargo test --release --offline --locked --quiet --manifest-path tests/Cargo.toml --features engine --test "$library" \
+        -- --nocapture
+    # how often each pair of kind and code, and each branch of the steps, was reached
+    [ "$library" != book ] || sed -n '/ calls, .* reads$/,/^$/p' "$work/log"
 done
 
 status=0
