@@ -43,6 +43,7 @@ unfoldable pub onEach : (ℕ → Bool) → (State → ℕ → State) → ℕ →
 onEach test step zero s = s
 onEach test step (suc i) s = let t = onEach test step i s in cond (test i) (step t i) t
 
+-- every row that the sentence drops
 unfoldable pub rowsDropped : State → ℕ → State
 rowsDropped s day = onEach (isDropped s day) blanked 256 s
 
@@ -53,6 +54,7 @@ changeTakesEffect s p =
     modes p (s waitingModes p)) lists p (s waitingLists p)) partials p (s waitingPartials p))
     waitingModes p 0) waitingLists p 0) waitingPartials p 0
 
+-- of every participant whose change waits
 unfoldable pub profilesChanged : State → State
 profilesChanged s = onEach (λ p. not (eqb (s waitingModes p) 0)) changeTakesEffect 32 s
 
@@ -60,9 +62,11 @@ profilesChanged s = onEach (λ p. not (eqb (s waitingModes p) 0)) changeTakesEff
 abbrev pub isExposureClosed : State → ℕ → ℕ → Bool
 isExposureClosed s day e = eqb (s useds e) 1 && isReached day (s exposureClosings e)
 
+-- one of them: its position given back, its amount zeroed
 abbrev pub exposureClosed : State → ℕ → State
 exposureClosed s e = put (giveBack s e (positionOf s e)) exposures e 0
 
+-- all of them, by rising number
 unfoldable pub exposuresClosed : State → ℕ → State
 exposuresClosed s day = onEach (isExposureClosed s day) exposureClosed 64 s
 
@@ -77,9 +81,11 @@ belongs s e i =
 abbrev pub isIdle : State → ℕ → Bool
 isIdle s e = eqb (s useds e) 1 && (eqb (s exposures e) 0 && all (λ i. not (belongs s e i)) 256 0)
 
+-- one of them: its row holds nothing
 abbrev pub exposureFreed : State → ℕ → State
 exposureFreed s e = put (put (put (put (put s useds e 0) exposureGivers e 0) exposureTakers e 0) exposureBaskets e 0) exposureClosings e 0
 
+-- all of them
 unfoldable pub exposuresFreed : State → State
 exposuresFreed s = onEach (isIdle s) exposureFreed 64 s
 

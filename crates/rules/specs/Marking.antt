@@ -41,6 +41,7 @@ shortfallIn s e = cond (ltb (valueOf s e) (s exposures e)) (pledge s e (pickFor 
 unfoldable pub givenBack : State → State
 givenBack s = onExposures excessBack 64 (onExposures ineligibleBack 64 s)
 
+-- the third: "then by rising number, where the value is below the exposure, Pick the difference"
 unfoldable pub searched : State → State
 searched s = onExposures shortfallIn 64 (givenBack s)
 
@@ -66,6 +67,7 @@ marked s = record {
 abbrev pub oneNominal : ℕ → ℕ → List ℕ
 oneNominal i n = set (replicate 64 0) i n
 
+-- the state with the nominal given back, before its substitutes
 abbrev pub recalled : State → List ℕ → State
 recalled s r = giveBack s (field r 1) (oneNominal (field r 2) (field r 3))
 
@@ -76,6 +78,7 @@ substitutes s r =
     let t = recalled s r in
     pickFor t e (butNot (field r 2) (eligibleFor t e)) (t exposures e - valueOf t e)
 
+-- the state with the substitutes in the position
 unfoldable pub substituted : State → List ℕ → State
 substituted s r = pledge (recalled s r) (field r 1) (substitutes s r .nominals)
 

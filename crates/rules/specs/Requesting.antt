@@ -67,9 +67,11 @@ rowsNeeded s r = cond (takerFollows s r) 2 1
 abbrev pub exposureOf : State → List ℕ → ℕ
 exposureOf s r = exposureWith s (giverIn r) (takerIn r) (objectIn r) (closingIn 6 r)
 
+-- "or to the lowest free row": a FOP that pairs now, whose key no used exposure has
 abbrev pub needsExposure : State → ℕ → List ℕ → Bool
 needsExposure s k r = eqb k 6 && (pairsNow s k r && eqb (exposureOf s r) 64)
 
+-- the exposure row e given out, under the key of the record
 abbrev pub exposureGiven : State → List ℕ → ℕ → State
 exposureGiven s r e =
     put (put (put (put (put s useds e 1) exposureGivers e (giverIn r)) exposureTakers e (takerIn r)) exposureBaskets e (objectIn r)) exposureClosings e (closingIn 6 r)

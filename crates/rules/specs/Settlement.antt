@@ -40,6 +40,7 @@ bothSettled s i x = put (put s settleds i (s settleds i + x)) settleds (partnerO
 abbrev pub returnAmount : State → ℕ → ℕ
 returnAmount s i = min (restOf s i) (s exposures (s objects i))
 
+-- the state after a return: both rows, the exposure, and what it no longer needs given back
 unfoldable pub returnSettled : State → ℕ → State
 returnSettled s i =
     let e = s objects i in
@@ -47,6 +48,7 @@ returnSettled s i =
     let lower = put (bothSettled s i x) exposures e (s exposures e - x) in
     giveBack lower e (freeFor lower e (s exposures e - x) .nominals)
 
+-- "B: returns changed, M: cents settled": a return that settles nothing changes nothing
 unfoldable pub settleReturn : Settling → ℕ → Settling
 settleReturn w i =
     let s = w .state in
@@ -60,6 +62,7 @@ settleReturn w i =
 abbrev pub found : State → ℕ → ℕ
 found s i = pickFor s (exposureOfFop s i) (eligibleFor s (exposureOfFop s i)) (restOf s i) .value
 
+-- what a FOP settles: 0 where it waits or nothing moves
 unfoldable pub fopAmount : State → ℕ → ℕ
 fopAmount s i =
     cond (ltb 10000000000000 (s exposures (exposureOfFop s i) + restOf s i)) 0
@@ -73,6 +76,7 @@ fopSettled s i =
     let x = fopAmount s i in
     pledge (put (bothSettled s i x) exposures e (s exposures e + x)) e (pickFor s e (eligibleFor s e) (restOf s i) .nominals)
 
+-- "A: FOPs changed, M: cents settled": a FOP that settles nothing changes nothing
 unfoldable pub settleFop : Settling → ℕ → Settling
 settleFop w i =
     let s = w .state in

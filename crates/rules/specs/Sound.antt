@@ -36,6 +36,7 @@ soundSecurity s i =
 abbrev pub soundProfile : ℕ → ℕ → ℕ → Bool
 soundProfile mode list partial = cond (eqb mode 0) (eqb list 0 && eqb partial 0) (leb mode 3 && leb partial 1)
 
+-- of a participant: both profiles; a change waits only where a profile is in force
 abbrev pub soundParticipant : State → ℕ → Bool
 soundParticipant s p =
     soundProfile (s modes p) (s lists p) (s partials p)
@@ -115,6 +116,7 @@ soundUnpaired s i = eqb (s settleds i) 0 && eqb (s pairPartials i) 0
 abbrev pub blankRow : State → ℕ → Bool
 blankRow s i = blank s 14 kinds i
 
+-- of a request row: its fields, and its pair or that it has none; an unused one holds nothing
 abbrev pub soundRow : State → ℕ → Bool
 soundRow s i = cond (isUsed s i) (soundFields s i && cond (isPaired s i) (soundPaired s i) (soundUnpaired s i)) (blankRow s i)
 

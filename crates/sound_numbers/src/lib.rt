@@ -51,6 +51,7 @@ fn is_new_number(marks: &mut [u8; 4096], book: &[u8], i: usize) -> bool
     is_distinct_number(book, i)
 }
 
+// "Request numbers are distinct", of all rows.
 pub fn are_distinct_numbers(book: &[u8]) -> bool
     requires { ⌜ length (now book) ≡ bookLength ⌝ }
     ensures { λ r. ⌜ r ≡ all (distinctNumber (state (now (book .entry)))) 256 0 ⌝ }
