@@ -15,17 +15,18 @@ use Rattle.laws.proofs.Cases.{either, clash}
 use Rattle.book.specs.Layout.{numbers, kinds, givers, takers, objects, closings, partners, useds, exposureGivers, exposureTakers, exposureBaskets, exposureClosings, exposures}
 use Rattle.book.specs.State.{State}
 use Rattle.rules.specs.DayChange.{belongs, isIdle, exposureFreed, onEach}
-use Rattle.rules.specs.Requests.{isUsed, isFop, isPaired}
+use Rattle.rules.specs.Requests.{isUsed, isFop, isPaired, hasKey}
 use Rattle.facts.proofs.Facts.{all-of}
 use Rattle.facts.proofs.Truth.{split}
 use Rattle.sound_setup.specs.Keys.{keyPlace}
+use Rattle.exposure_search.specs.Places.{placeOf}
 use Rattle.day_laws.proofs.Each.{each-keeps}
-use Rattle.day_exposures.specs.Parts.{hasKeyOf, isNotOf, placeOf, Placed, Marked, MarkedFor}
+use Rattle.day_exposures.specs.Parts.{isNotOf, Placed, Marked, MarkedFor}
 use Rattle.day_exposures.proofs.Ways.{no-row, by-name, by-rows}
 
--- the place by what was read
-pub place-read : (s : State) (e : ℕ) {r g t b c : ℕ} → g ≡ s exposureGivers e → t ≡ s exposureTakers e → b ≡ s exposureBaskets e → c ≡ s exposureClosings e → r ≡ keyPlace g t b c → r ≡ placeOf s e
-place-read s e gq tq bq cq q = rw (← gq, ← tq, ← bq, ← cq) q
+-- an exposure has the key of a FOP row
+abbrev hasKeyOf : State → ℕ → ℕ → Bool
+hasKeyOf s e i = hasKey s (s givers i) (s takers i) (s objects i) (s closings i) e
 
 -- the place of a row
 module _ (s : State) (i : ℕ) {n : ℕ} (nq : n ≡ s numbers i) where

@@ -6,11 +6,12 @@ use Prim.Native.Nat.{ℕ}
 use lib.Dec.{eqb}
 use borrow.Author.Tests.{eq-eqb, ne-eqb}
 use Rattle.laws.specs.Search.{all}
-use Rattle.book.specs.Layout.{numbers, kinds, givers, takers, objects, closings, partners, useds, exposureGivers, exposureTakers, exposureBaskets, exposureClosings, exposures}
+use Rattle.book.specs.Layout.{numbers, kinds, givers, takers, objects, closings, partners, useds, exposureClosings, exposures}
 use Rattle.book.specs.State.{State}
 use Rattle.rules.specs.DayChange.{isReached, isExposureClosed, belongs, isIdle}
+use Rattle.rules.specs.Requests.{hasKey}
 use Rattle.day_rows.proofs.Ways.{or-none}
-use Rattle.day_exposures.specs.Parts.{hasKeyOf, isNotOf}
+use Rattle.day_exposures.specs.Parts.{isNotOf}
 
 -- an exposure whose closing date is reached
 module _ (s : State) (day e : ℕ) {u : ℕ} (uq : u ≡ s useds e) where
@@ -19,27 +20,6 @@ module _ (s : State) (day e : ℕ) {u : ℕ} (uq : u ≡ s useds e) where
 
   pub by-reached : {c : ℕ} {b : Bool} → u ≡ 1 → c ≡ s exposureClosings e → b ≡ isReached day c → b ≡ isExposureClosed s day e
   by-reached z cq bq = rw (← uq, z, ← cq) bq
-
--- the key of a FOP row
-module _ (s : State) (e i : ℕ) {u : ℕ} (uq : u ≡ s useds e) where
-  pub key-unused : (u ≡ 1 → ⊥) → false ≡ hasKeyOf s e i
-  key-unused n = rw (← uq, ne-eqb u 1 n)
-
-  module _ (used : u ≡ 1) {g h : ℕ} (gq : g ≡ s exposureGivers e) (hq : h ≡ s givers i) where
-    pub key-giver : (g ≡ h → ⊥) → false ≡ hasKeyOf s e i
-    key-giver n = rw (← gq, ← hq, ne-eqb g h n, and-false)
-
-    module _ (giver : g ≡ h) {t v : ℕ} (tq : t ≡ s exposureTakers e) (vq : v ≡ s takers i) where
-      pub key-taker : (t ≡ v → ⊥) → false ≡ hasKeyOf s e i
-      key-taker n = rw (← tq, ← vq, ne-eqb t v n, and-false, and-false)
-
-      module _ (taker : t ≡ v) {b o : ℕ} (bq : b ≡ s exposureBaskets e) (oq : o ≡ s objects i) where
-        pub key-basket : (b ≡ o → ⊥) → false ≡ hasKeyOf s e i
-        key-basket n = rw (← bq, ← oq, ne-eqb b o n, and-false, and-false, and-false)
-
-        pub by-key-closing : {c d : ℕ} → b ≡ o → c ≡ s exposureClosings e → d ≡ s closings i → eqb c d ≡ hasKeyOf s e i
-        by-key-closing basket cq dq =
-            rw (← uq, eq-eqb u 1 used, ← gq, ← hq, eq-eqb g h giver, ← tq, ← vq, eq-eqb t v taker, ← bq, ← oq, eq-eqb b o basket, ← cq, ← dq)
 
 -- a row that belongs to an exposure
 module _ (s : State) (e i : ℕ) {n : ℕ} (nq : n ≡ s numbers i) where
@@ -57,8 +37,8 @@ module _ (s : State) (e i : ℕ) {n : ℕ} (nq : n ≡ s numbers i) where
       pub no-pair : p ≡ 0 → false ≡ belongs s e i
       no-pair z = rw (← kq, fop, ← pq, z, and-false)
 
-      pub by-pair : {b : Bool} → (p ≡ 0 → ⊥) → b ≡ hasKeyOf s e i → b ≡ belongs s e i
-      by-pair m bq = rw (← nq, ne-eqb n 0 used, ← kq, fop, ← pq, ne-eqb p 0 m) bq
+      pub by-pair : {g t o c : ℕ} {b : Bool} → (p ≡ 0 → ⊥) → g ≡ s givers i → t ≡ s takers i → o ≡ s objects i → c ≡ s closings i → b ≡ hasKey s g t o c e → b ≡ belongs s e i
+      by-pair m gq tq oq cq bq = rw (← nq, ne-eqb n 0 used, ← kq, fop, ← pq, ne-eqb p 0 m, ← gq, ← tq, ← oq, ← cq) bq
 
 -- an exposure that is idle
 module _ (s : State) (e : ℕ) {u : ℕ} (uq : u ≡ s useds e) where

@@ -6,12 +6,11 @@ use mathlib.Core.List.{List}
 use Prim.Native.Nat.{ℕ, _≤_, _<_}
 use lib.ListN.{length, getD}
 use Rattle.laws.specs.Sum.{sum}
-use Rattle.book.specs.Layout.{givers, takers, objects, closings, useds, exposureGivers, exposureTakers, exposureBaskets, exposureClosings, exposures}
+use Rattle.book.specs.Layout.{useds, exposureGivers, exposures}
 use Rattle.book.specs.State.{State}
 use Rattle.rules.specs.DayChange.{isExposureClosed, belongs}
-use Rattle.rules.specs.Requests.{hasKey}
 use Rattle.rules.specs.Sound.{holding}
-use Rattle.sound_setup.specs.Keys.{keyPlace}
+use Rattle.exposure_search.specs.Places.{placeOf}
 
 -- the test of an exposure to be closed, at a row of a state
 abbrev pub closesOn : ℕ → State → ℕ → Bool
@@ -30,16 +29,9 @@ pub record Closable (s : State) : Type 0 where
   pub amount : (e : ℕ) → e < 64 → s useds e ≡ 1 → s exposures e ≤ 10000000000000
   pub held : (p i : ℕ) → p < 32 → i < 64 → holding s p i ≤ 500000000
 
--- an exposure has the key of a FOP row; a row does not belong to an exposure
-abbrev pub hasKeyOf : State → ℕ → ℕ → Bool
-hasKeyOf s e i = hasKey s (s givers i) (s takers i) (s objects i) (s closings i) e
-
+-- a row does not belong to an exposure
 abbrev pub isNotOf : State → ℕ → ℕ → Bool
 isNotOf s e i = not (belongs s e i)
-
--- the place of the key of the exposure e
-abbrev pub placeOf : State → ℕ → ℕ
-placeOf s e = keyPlace (s exposureGivers e) (s exposureTakers e) (s exposureBaskets e) (s exposureClosings e)
 
 -- a row has the place of the exposure that it belongs to
 pub record Placed (s : State) (i place : ℕ) : Type 0 where

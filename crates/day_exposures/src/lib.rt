@@ -8,12 +8,9 @@ ghost use Rattle.book.specs.Layout.{bookLength};
 ghost use Rattle.book.specs.State.{state};
 ghost use Rattle.rules.specs.DayChange.{isExposureClosed, exposureClosed, exposuresClosed, belongs, isIdle, exposureFreed, exposuresFreed};
 ghost use Rattle.day_rows.specs.Parts.{tried};
-ghost use Rattle.day_exposures.specs.Parts.{closesOn, amountClosed, amountsClosed, Closable, hasKeyOf, isNotOf, placeOf, Placed, Marked, MarkedFor};
+ghost use Rattle.day_exposures.specs.Parts.{closesOn, amountClosed, amountsClosed, Closable, isNotOf, Placed, Marked, MarkedFor};
 use book::layout::CLOSINGS;
-use book::layout::EXPOSURE_BASKETS;
 use book::layout::EXPOSURE_CLOSINGS;
-use book::layout::EXPOSURE_GIVERS;
-use book::layout::EXPOSURE_TAKERS;
 use book::layout::EXPOSURES;
 use book::layout::GIVERS;
 use book::layout::KINDS;
@@ -65,26 +62,6 @@ pub fn close_exposures(book: &mut [u8], day: u64) -> u64
     closed
 }
 
-// Is the exposure e used, with the key of the FOP row i?
-fn has_key_of(book: &[u8], e: usize, i: usize) -> bool
-    requires { ⌜ (length (now book) ≡ bookLength) × (e < 64) × (i < 256) ⌝ }
-    ensures { λ r. ⌜ r ≡ hasKeyOf (state (now (book .entry))) e i ⌝ }
-{
-    if book::get(book, USEDS, e) != 1 {
-        return false;
-    }
-    if book::get(book, EXPOSURE_GIVERS, e) != book::get(book, GIVERS, i) {
-        return false;
-    }
-    if book::get(book, EXPOSURE_TAKERS, e) != book::get(book, TAKERS, i) {
-        return false;
-    }
-    if book::get(book, EXPOSURE_BASKETS, e) != book::get(book, OBJECTS, i) {
-        return false;
-    }
-    book::get(book, EXPOSURE_CLOSINGS, e) == book::get(book, CLOSINGS, i)
-}
-
 // Does the row i belong to the exposure e: a return that names it, a FOP pair with its key?
 fn does_belong(book: &[u8], e: usize, i: usize) -> bool
     requires { ⌜ (length (now book) ≡ bookLength) × (e < 64) × (i < 256) ⌝ }
@@ -104,7 +81,14 @@ fn does_belong(book: &[u8], e: usize, i: usize) -> bool
     if partner == 0 {
         return false;
     }
-    has_key_of(book, e, i)
+    exposure_search::has_key(
+        book,
+        book::get(book, GIVERS, i),
+        book::get(book, TAKERS, i),
+        book::get(book, OBJECTS, i),
+        book::get(book, CLOSINGS, i),
+        e,
+    )
 }
 
 // Does no row belong to the exposure e?
@@ -122,19 +106,6 @@ fn does_none_belong(book: &[u8], e: usize) -> bool
     true
 }
 
-// The place of an exposure's key among 1,024.
-fn place_of(book: &[u8], e: usize) -> usize
-    requires { ⌜ (length (now book) ≡ bookLength) × (e < 64) ⌝ }
-    ensures { λ r. ⌜ (r ≡ placeOf (state (now (book .entry))) e) × (r < 1024) ⌝ }
-{
-    sound_setup::key_place(
-        book::get(book, EXPOSURE_GIVERS, e),
-        book::get(book, EXPOSURE_TAKERS, e),
-        book::get(book, EXPOSURE_BASKETS, e),
-        book::get(book, EXPOSURE_CLOSINGS, e),
-    )
-}
-
 // The place of the exposure that a row belongs to; any place for a row that belongs to none, as 1,024 for one that is not in use.
 fn row_place(book: &[u8], i: usize) -> usize
     requires { ⌜ (length (now book) ≡ bookLength) × (i < 256) ⌝ }
@@ -148,7 +119,7 @@ fn row_place(book: &[u8], i: usize) -> usize
         if 64 <= object {
             return 1024;
         }
-        return place_of(book, object as usize);
+        return exposure_search::place_of(book, object as usize);
     }
     sound_setup::key_place(
         book::get(book, GIVERS, i),
@@ -202,7 +173,7 @@ fn is_idle(book: &[u8], marks: &[u8; 1025], e: usize) -> bool
     if book::get(book, EXPOSURES, e) != 0 {
         return false;
     }
-    let place = place_of(book, e);
+    let place = exposure_search::place_of(book, e);
     if marks[place] == 0 {
         return true;
     }

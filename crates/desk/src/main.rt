@@ -140,7 +140,7 @@ fn serve(book: &mut [u8], input: &mut [u8], text: &mut [u8])
         reads -= 1;
     }
     if s.held > 0 {
-        let end = lines::put_line(text, 0, s.place + 1, input[0], &[MALFORMED, 0, 0, 0]);
+        let end = line_text::put_line(text, 0, s.place + 1, input[0], &[MALFORMED, 0, 0, 0]);
         write_text(text, end);
     }
 }

@@ -1,1 +1,3 @@
+pub mod Keys
+pub mod Next
 pub mod Ways

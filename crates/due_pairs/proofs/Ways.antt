@@ -1,20 +1,20 @@
--- What each way out of the test of a due row shows.
+-- What each way out of the tests of a due row shows.
 -- Assumes nothing.
 use mathlib.Core.Path.{_≡_, refl, sym, ap, _∙_}
-use mathlib.Core.Bool.{Bool, true, false, not, _&&_, and-false}
-use Prim.Native.Nat.{ℕ, _+_, _-_, _≤_, _<_}
-use native.Mathlib.Numerals.{add-one}
+use mathlib.Core.Bool.{Bool, true, false, _&&_, and-false}
+use mathlib.Core.Logic.{⊎-elim}
+use Prim.Native.Nat.{ℕ, _-_, _≤_, _<_}
 use native.Mathlib.Omega.{arith}
 use lib.Dec.{eqb, leb, ltb}
-use borrow.Author.Tests.{eq-eqb, ne-eqb, le-leb, lt-leb, lt-ltb, le-ltb, not-true, not-false}
-use Rattle.laws.specs.Search.{leastBy}
+use borrow.Author.Tests.{eq-eqb, ne-eqb, eqb-false, le-leb, lt-leb, lt-ltb, le-ltb, not-true}
+use Rattle.laws.proofs.Cases.{either, and-left}
 use Rattle.book.specs.Layout.{today, numbers, kinds, amounts, settlements, settleds, partners, ends}
 use Rattle.book.specs.State.{State}
 use Rattle.rules.specs.Requests.{isUsed, isPaired, isLive, partnerOf}
 use Rattle.rules.specs.Settlement.{orderOf, isDue}
 use Rattle.facts.proofs.Keeps.{Good}
 use Rattle.facts.proofs.Rows.{used-paired}
-use Rattle.due_pairs.specs.Due.{duePair, isAhead, earlierOf}
+use Rattle.due_pairs.specs.Due.{duePair}
 
 -- a row's settlement day and number within four bytes
 pub record Dated (s : State) (i : ℕ) : Type 0 where
@@ -76,36 +76,27 @@ regroup true true false d e f = sym (and-false (d && e))
 regroup true true true false e f = refl
 regroup true true true true e f = refl
 
-module _ (s : State) (kind last best i : ℕ) where
-  due-by : isDue s kind last i ≡ (duePair s i && (eqb (s kinds i) kind && ltb last (orderOf s i)))
+module _ (s : State) (kind last i : ℕ) where
+  pub due-by : isDue s kind last i ≡ (duePair s i && (eqb (s kinds i) kind && ltb last (orderOf s i)))
   unfolding duePair
   due-by = regroup (isLive s i) (isPaired s i) (eqb (s kinds i) kind) (ltb (s numbers (partnerOf s i)) (s numbers i)) (leb (s settlements i) (s today 0)) (ltb last (orderOf s i))
 
-  stays : (isDue s kind last i && isAhead s best (orderOf s i)) ≡ false → best ≡ earlierOf s kind last best i
-  unfolding earlierOf
-  stays h = rw h
+-- a row that is due has a number
+pub due-used : (s : State) (i : ℕ) → duePair s i ≡ true → isUsed s i ≡ true
+unfolding duePair
+due-used s i h = and-left (isUsed s i) _ (and-left (isLive s i) _ h)
 
-  module _ {k : ℕ} (kq : k ≡ s kinds i) where
-    pub other-kind : (k ≡ kind → ⊥) → best ≡ earlierOf s kind last best i
-    other-kind h = stays (rw (due-by, ne-eqb (s kinds i) kind (λ e. h (kq ∙ e)), and-false))
+pub used-order : (s : State) (i : ℕ) → isUsed s i ≡ true → 0 < orderOf s i
+used-order s i h = let n = eqb-false (s numbers i) 0 (not-true (eqb (s numbers i) 0) h) in omega arith
 
-    module _ (ke : k ≡ kind) {o : ℕ} (oq : o ≡ orderOf s i) where
-      pub not-after : o ≤ last → best ≡ earlierOf s kind last best i
-      not-after h = stays (rw (due-by, le-ltb last (orderOf s i) (rw oq at h), and-false, and-false))
+-- the ways out of `is_due`
+module _ (s : State) (kind i : ℕ) {k : ℕ} (kq : k ≡ s kinds i) where
+  pub other-kind : (k ≡ kind → ⊥) → false ≡ isDue s kind 0 i
+  other-kind h = rw (due-by s kind 0 i, ne-eqb (s kinds i) kind (λ e. h (kq ∙ e)), and-false)
 
-      module _ (ol : last < o) {b : Bool} (bq : b ≡ isAhead s best o) where
-        pub not-ahead : not b ≡ true → best ≡ earlierOf s kind last best i
-        not-ahead h = stays (rw (sym (rw oq at bq) ∙ not-true b h, and-false))
-
-        module _ (bt : not b ≡ false) {d : Bool} (dq : d ≡ duePair s i) where
-          pub not-due : d ≡ false → best ≡ earlierOf s kind last best i
-          not-due h = stays (rw (due-by, sym dq ∙ h))
-
-          pub now-due : d ≡ true → i ≡ earlierOf s kind last best i
-          unfolding earlierOf
-          now-due h = rw (due-by, sym dq ∙ h, eq-eqb (s kinds i) kind (sym kq ∙ ke), lt-ltb last (orderOf s i) (rw oq at ol), sym (rw oq at bq) ∙ not-false b bt)
-
-  -- one row more, in the code's i + 1
-  pub earliest-next : best ≡ leastBy (isDue s kind last) (orderOf s) 256 i → earlierOf s kind last best i ≡ leastBy (isDue s kind last) (orderOf s) 256 (i + 1)
-  unfolding leastBy earlierOf isAhead
-  earliest-next e = rw (add-one, ← e)
+  pub same-kind : k ≡ kind → {d : Bool} → d ≡ duePair s i → d ≡ isDue s kind 0 i
+  same-kind e {d} dq =
+      ⊎-elim
+      (λ (h : duePair s i ≡ true). rw (due-by s kind 0 i, h, eq-eqb (s kinds i) kind (sym kq ∙ e), lt-ltb 0 (orderOf s i) (used-order s i (due-used s i h))) (dq ∙ h))
+      (λ (h : duePair s i ≡ false). rw (due-by s kind 0 i, h) (dq ∙ h))
+      (either (duePair s i))

@@ -1,12 +1,12 @@
-// The pair to settle next: of the live pairs of a kind that are due, the first by settlement date and then in the order in which they paired.
+// The live pairs of a kind that are due, by their later requests: collected once as keys, and then the next by settlement date and the order in which they paired.
 ghost use mathlib.Core.Path.{_≡_};
-ghost use Prim.Native.Nat.{_<_, _≤_};
-ghost use lib.ListN.{length};
+ghost use Prim.Native.Nat.{_+_, _<_, _≤_};
+ghost use lib.ListN.{length, take};
 ghost use Rattle.book.specs.Layout.{bookLength};
 ghost use Rattle.book.specs.State.{state};
 ghost use Rattle.facts.proofs.Keeps.{Good};
-ghost use Rattle.rules.specs.Settlement.{orderOf, nextDue};
-ghost use Rattle.due_pairs.specs.Due.{duePair, isAhead, earlierOf};
+ghost use Rattle.rules.specs.Settlement.{orderOf, isDue};
+ghost use Rattle.due_pairs.specs.Due.{duePair, noKey, Collected, lesserFrom, leastFrom};
 use book::layout::AMOUNTS;
 use book::layout::ENDS;
 use book::layout::KINDS;
@@ -16,8 +16,11 @@ use book::layout::SETTLEDS;
 use book::layout::SETTLEMENTS;
 use book::layout::TODAY;
 
+// Stands for no key: greater than every key.
+pub const NO_KEY: u64 = 18446744073709551615;
+
 // A row's place in the order: by settlement date, then by number.
-pub fn order_of(book: &[u8], i: usize) -> u64
+fn order_of(book: &[u8], i: usize) -> u64
     requires { ⌜ (length (now book) ≡ bookLength) × (i < 256) ⌝ }
     ensures { λ r. ⌜ r ≡ orderOf (state (now (book .entry))) i ⌝ }
 {
@@ -49,45 +52,63 @@ fn is_due_pair(book: &[u8], i: usize) -> bool
     book::get(book, SETTLEMENTS, i) <= book::get(book, TODAY, 0)
 }
 
-// Does a row with this place in the order come before the earliest found so far? 256 stands for none.
-fn is_ahead(book: &[u8], best: usize, order: u64) -> bool
-    requires { ⌜ (length (now book) ≡ bookLength) × (best ≤ 256) ⌝ }
-    ensures { λ r. ⌜ r ≡ isAhead (state (now (book .entry))) best order ⌝ }
-{
-    if best == 256 {
-        return true;
-    }
-    order < order_of(book, best)
-}
-
-// The row i where it is due and comes before the earliest found so far, else that one. What few rows pass is asked first.
-fn earlier_of(book: &[u8], kind: u64, last: u64, best: usize, i: usize) -> usize
-    requires { ⌜ (length (now book) ≡ bookLength) × Good (state (now book)) × (best ≤ 256) × (i < 256) ⌝ }
-    ensures { λ r. ⌜ (r ≡ earlierOf (state (now (book .entry))) kind last best i) × (r ≤ 256) ⌝ }
+// Is the row the later request of a live pair of a kind that is due? What few rows pass is asked first.
+fn is_due(book: &[u8], kind: u64, i: usize) -> bool
+    requires { ⌜ (length (now book) ≡ bookLength) × Good (state (now book)) × (i < 256) ⌝ }
+    ensures { λ r. ⌜ r ≡ isDue (state (now (book .entry))) kind 0 i ⌝ }
 {
     if book::get(book, KINDS, i) != kind {
-        return best;
+        return false;
     }
-    let order = order_of(book, i);
-    if order <= last {
-        return best;
-    }
-    if !is_ahead(book, best, order) {
-        return best;
-    }
-    if is_due_pair(book, i) { i } else { best }
+    is_due_pair(book, i)
 }
 
-// The next pair of a kind to settle, after the last one tried, by the row of its later request; 256 where there is none.
-pub fn next_due(book: &[u8], kind: u64, last: u64) -> usize
-    requires { ⌜ (length (now book) ≡ bookLength) × Good (state (now book)) ⌝ }
-    ensures { λ r. ⌜ (r ≡ nextDue (state (now (book .entry))) kind last) × (r ≤ 256) ⌝ }
+// Puts the key of a row that is due behind the n found so far. How many there are then.
+fn note_due(book: &[u8], kind: u64, i: usize, keys: &mut [u64; 256], n: usize) -> usize
+    requires { ⌜ (length (now book) ≡ bookLength) × Good (state (now book)) × (i < 256) × Collected (state (now book)) kind i (now keys) n ⌝ }
+    ensures { λ r. ⌜ Collected (state (now (book .entry))) kind (i + 1) (now (keys .exit)) r ⌝ }
 {
-    let mut best: usize = 256;
+    if !is_due(book, kind, i) {
+        return n;
+    }
+    keys[n] = order_of(book, i) * 256 + i as u64;
+    n + 1
+}
+
+// Puts the keys of the rows of a kind that are due at the front, in the order of the rows. How many there are.
+pub fn collect(book: &[u8], kind: u64, keys: &mut [u64; 256]) -> usize
+    requires { ⌜ (length (now book) ≡ bookLength) × Good (state (now book)) × (length (now keys) ≡ 256) ⌝ }
+    ensures { λ r. ⌜ Collected (state (now (book .entry))) kind 256 (now (keys .exit)) r ⌝ }
+{
+    let mut n: usize = 0;
     let mut i: usize = 0;
     while i < 256 {
-        best = earlier_of(book, kind, last, best, i);
+        n = note_due(book, kind, i, keys, n);
         i += 1;
     }
-    best
+    n
+}
+
+// A key where it is one from a bound on and less than the least found so far, else that one.
+fn lesser_from(bound: u64, least: u64, key: u64) -> u64
+    ensures { λ r. ⌜ r ≡ lesserFrom bound least key ⌝ }
+{
+    if key < bound {
+        return least;
+    }
+    if key < least { key } else { least }
+}
+
+// The least of the first n keys from a bound on; `NO_KEY` where there is none.
+pub fn next_key(keys: &[u64; 256], n: usize, bound: u64) -> u64
+    requires { ⌜ (n ≤ 256) × (length (now keys) ≡ 256) ⌝ }
+    ensures { λ r. ⌜ r ≡ leastFrom bound noKey (take n (now (keys .entry))) ⌝ }
+{
+    let mut least = NO_KEY;
+    let mut j: usize = 0;
+    while j < n {
+        least = lesser_from(bound, least, keys[j]);
+        j += 1;
+    }
+    least
 }

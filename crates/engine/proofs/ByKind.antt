@@ -20,7 +20,7 @@ use Rattle.rules.specs.Settlement.{settlement}
 use Rattle.rules.specs.SetUp.{opened, priced, enrolled, basketMade, deposited, withdrawn}
 use Rattle.rules.specs.Sound.{holding, sound}
 use Rattle.facts.proofs.Rules.{none-applies}
-use Rattle.setup.specs.Accounts.{AccountRoom, AccountHolds}
+use Rattle.accounts.specs.Accounts.{AccountRoom, AccountHolds}
 use Rattle.engine.specs.Entry.{Taken, Accepted}
 use Rattle.totals.specs.Totals.{totalsOf}
 use Rattle.totals.specs.declared.Totals as totals

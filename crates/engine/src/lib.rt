@@ -17,8 +17,8 @@ fn code_of(book: &[u8], kind: u64, fields: &[u64; 8]) -> u64
         0 => setup::opening_code(fields),
         1 => setup::price_code(book, fields),
         3 => setup::basket_code(book, fields),
-        4 => setup::deposit_code(book, fields),
-        5 => setup::withdrawal_code(book, fields),
+        4 => accounts::deposit_code(book, fields),
+        5 => accounts::withdrawal_code(book, fields),
         6 => requests::fop_code(book, fields),
         7 => requests::return_code(book, fields),
         8 => requests::cancel_code(book, fields),
@@ -38,8 +38,8 @@ fn set_up(book: &mut [u8], kind: u64, fields: &[u64; 8])
         1 => setup::price(book, fields),
         2 => setup::enrol(book, fields),
         3 => setup::make_basket(book, fields),
-        4 => setup::deposit(book, fields),
-        _ => setup::withdraw(book, fields),
+        4 => accounts::deposit(book, fields),
+        _ => accounts::withdraw(book, fields),
     }
 }
 

@@ -7,7 +7,7 @@ use Prim.Native.Nat.{ℕ, _<_}
 use native.Mathlib.Omega.{arith}
 use lib.ListN.{getD}
 use Rattle.laws.proofs.Least.{all-at}
-use Rattle.records.specs.Kinds.{fieldOf}
+use Rattle.record_kinds.specs.Kinds.{fieldOf}
 use Rattle.records.specs.Writing.{areLegal}
 use Rattle.records.proofs.Ranges.{legalAt}
 use Rattle.facts.proofs.Truth.{Between, between-facts}

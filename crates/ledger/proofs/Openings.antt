@@ -14,7 +14,7 @@ use Rattle.calendar.specs.Easter.{easter}
 use Rattle.calendar.specs.Gregorian.{leapDay, startOf, yearOf, dayOfYear}
 use Rattle.calendar.specs.Target.{holiday, openDay}
 use Rattle.calendar.proofs.OpenDays.{open-within}
-use Rattle.records.specs.Kinds.{kinds, offsetOf, inRange}
+use Rattle.record_kinds.specs.Kinds.{kinds, offsetOf, inRange}
 use Rattle.records.specs.Reading.{read, taken}
 use Rattle.records.specs.Writing.{areLegal, imageTo, writeCode, written}
 use Rattle.records.proofs.RoundTrip.{reads-back}

@@ -8,7 +8,7 @@ use native.Mathlib.Omega.{arith}
 use lib.Dec.{ltb}
 use lib.ListN.{length, getD}
 use borrow.Author.Tests.{lt-ltb, le-ltb, le-leb, lt-leb}
-use Rattle.records.specs.Kinds.{lengthOf}
+use Rattle.record_kinds.specs.Kinds.{lengthOf}
 use Rattle.lines.specs.Cuts.{recordLength, firstRecord, isAwaited}
 
 pub known-length : (k : ℕ) {n : ℕ} → k < 13 → n ≡ lengthOf k → n ≡ recordLength k

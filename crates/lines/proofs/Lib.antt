@@ -1,5 +1,4 @@
+pub mod Answers
 pub mod Batches
 pub mod Cuts
-pub mod Numerals
 pub mod Serving
-pub mod Texts

@@ -12,8 +12,9 @@ use lib.Seq.{take-all, length-take-le, getD-take, drop-drop}
 use borrow.Author.Tests.{lt-ltb, le-ltb, le-leb, lt-leb}
 use Rattle.rules.specs.Call.{callAnswer, callBook}
 use Rattle.lines.specs.Cuts.{firstRecord}
-use Rattle.lines.specs.Lines.{Served, served, before, front, frontLine, lineOf, put, servedWhile}
-use Rattle.lines.proofs.Texts.{put-next, put-none, put-length}
+use Rattle.lines.specs.Lines.{Served, served, before, front, frontLine, servedWhile}
+use Rattle.line_text.specs.Text.{lineOf, put}
+use Rattle.line_text.proofs.Texts.{put-next, put-none, put-length}
 
 module _ (n : ℕ) (fits : ℕ → Bool) (w : ℕ) (b piece : List ℕ) (place : ℕ) where
   -- one record more

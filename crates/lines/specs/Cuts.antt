@@ -5,7 +5,7 @@ use mathlib.Core.List.{List, [], _∷_}
 use Prim.Native.Nat.{ℕ}
 use lib.Dec.{leb, ltb}
 use lib.ListN.{length}
-use Rattle.records.specs.Kinds.{known, lengthOf}
+use Rattle.record_kinds.specs.Kinds.{known, lengthOf}
 
 -- the bytes of a record of a kind, its kind's byte included; 0 where there is no such kind
 unfoldable pub recordLength : ℕ → ℕ

@@ -2,10 +2,11 @@
 // engine with one book, and the text of a line for each.
 ghost use mathlib.Core.Path.{_≡_};
 ghost use Prim.Native.Nat.{_+_, _≤_, _<_};
-ghost use lib.ListN.{length, getD, take};
+ghost use lib.ListN.{length, getD};
 ghost use Rattle.rules.specs.Call.{callAnswer, callBook};
 ghost use Rattle.lines.specs.Cuts.{recordLength, firstRecord, isAwaited};
-ghost use Rattle.lines.specs.Lines.{word, lineOf, answerOf, put, servedWithin};
+ghost use Rattle.line_text.specs.Text.{lineOf, put};
+ghost use Rattle.lines.specs.Lines.{servedWithin};
 
 // The most bytes of a line: six numbers of up to 20 digits, with a byte after each.
 const LINE: usize = 126;
@@ -29,7 +30,11 @@ fn length_of(kind: u8) -> usize
     ensures { λ r. ⌜ r ≡ recordLength kind ⌝ }
 {
     let k = wide(kind);
-    if k < 13 { records::length_of(k) } else { 0 }
+    if k < 13 {
+        record_kinds::length_of(k)
+    } else {
+        0
+    }
 }
 
 // The bytes of the first record; 0 where there is none, or it is cut or unknown.
@@ -53,44 +58,6 @@ pub fn is_awaited(bytes: &[u8]) -> bool
     length_of(bytes[0]) > 0
 }
 
-// Puts the first `count` digits; answers where the next byte goes.
-fn put_digits(lines: &mut [u8], at: usize, digits: [u8; 20], count: usize) -> usize
-    requires { ⌜ (count ≤ length digits) × (at + 20 ≤ length (now lines)) ⌝ }
-    ensures { λ r. ⌜ (r ≡ at + count) × (r ≤ at + 20) × (now (lines .exit) ≡ put (now (lines .entry)) at (take count digits)) ⌝ }
-{
-    let mut i: usize = 0;
-    while i < count {
-        lines[at + i] = digits[i];
-        i += 1;
-    }
-    at + count
-}
-
-// Puts a number in base ten and the byte that follows it; answers where the next number begins.
-fn put_number(lines: &mut [u8], at: usize, number: u64, after: u8) -> usize
-    requires { ⌜ at + 21 ≤ length (now lines) ⌝ }
-    ensures { λ r. ⌜ (r ≡ at + length (word number after)) × (r ≤ at + 21) × (now (lines .exit) ≡ put (now (lines .entry)) at (word number after)) ⌝ }
-{
-    let mut digits = [0u8; 20];
-    let count = io::decimal(number, &mut digits);
-    let end = put_digits(lines, at, digits, count);
-    lines[end] = after;
-    end + 1
-}
-
-// Puts a record's line: its place, its kind, and the code, A, B and M of its answer; answers where the next line begins.
-pub fn put_line(lines: &mut [u8], at: usize, place: u64, kind: u8, answer: &[u64; 4]) -> usize
-    requires { ⌜ at + 126 ≤ length (now lines) ⌝ }
-    ensures { λ r. ⌜ (r ≡ at + length (lineOf place kind (answerOf (now (answer .entry))))) × (r ≤ at + 126) × (now (lines .exit) ≡ put (now (lines .entry)) at (lineOf place kind (answerOf (now (answer .entry))))) ⌝ }
-{
-    let a = put_number(lines, at, place, b' ');
-    let b = put_number(lines, a, wide(kind) as u64, b' ');
-    let c = put_number(lines, b, answer[0], b' ');
-    let d = put_number(lines, c, answer[1], b' ');
-    let e = put_number(lines, d, answer[2], b' ');
-    put_number(lines, e, answer[3], b'\n')
-}
-
 // Makes the call of one record and puts its line.
 fn serve_record(book: &mut [u8], bytes: &[u8], lines: &mut [u8], p: Progress) -> Progress
     requires { ⌜ (0 < length (now bytes)) × (p .taken + length (now bytes) < 18446744073709551616) × (p .place < 18446744073709551615) × (p .waiting + 126 ≤ length (now lines)) ⌝ }
@@ -103,7 +70,7 @@ fn serve_record(book: &mut [u8], bytes: &[u8], lines: &mut [u8], p: Progress) ->
     engine::engine_call(book, bytes, &mut answer);
     let place = p.place + 1;
     let taken = p.taken + bytes.len();
-    let waiting = put_line(lines, p.waiting, place, bytes[0], &answer);
+    let waiting = line_text::put_line(lines, p.waiting, place, bytes[0], &answer);
     Progress {
         place,
         taken,

@@ -1,7 +1,7 @@
 -- One exposure's step of each pass: what the code finds on arrays is what the definition gives back or pledges.
 -- Assumes nothing.
 use mathlib.Core.Path.{_≡_, sym, ap, _∙_}
-use mathlib.Core.Bool.{Bool, cond}
+use mathlib.Core.Bool.{Bool, true, false, cond}
 use mathlib.Core.List.{List}
 use mathlib.Core.Logic.{⊎-elim}
 use Prim.Native.Nat.{ℕ, _+_, _*_, _-_, _<_}
@@ -10,6 +10,7 @@ use lib.Dec.{eqb}
 use lib.ListN.{length, getD}
 use borrow.Author.Tests.{eq-eqb, ne-eqb, lt-ltb, le-ltb}
 use Rattle.laws.specs.Filled.{filled}
+use Rattle.laws.specs.Search.{all}
 use Rattle.laws.proofs.Cases.{either}
 use Rattle.baskets.specs.Fresh.{EligibilityFor}
 use Rattle.baskets.specs.declared.Eligibility.{Eligibility}
@@ -28,13 +29,15 @@ use Rattle.facts.proofs.Filled.{filled-same}
 use Rattle.facts.proofs.Stock.{position-at}
 use Rattle.rules.specs.Marking.{moved, ineligibleOf, ineligibleBack, excessBack, shortfallIn, missingOf}
 use Rattle.rules.specs.Stock.{basketOf, positionOf, valueOf, eligibleFor, freeFor, pickFor, pledge, giveBack}
-use Rattle.marking_laws.specs.Pass.{onUsed}
+use Rattle.marking_laws.specs.Pass.{onUsed, isEmpty}
 use Rattle.marking_laws.proofs.Marking.{ineligible-returnable, amounts-kept}
 use Rattle.marking_laws.proofs.Moved.{moved-none, own-giveBack}
 use Rattle.marking_laws.proofs.Passes.{own-used}
-use Rattle.mark_steps.specs.Stepped.{Stepped, bit, ineligibleIn}
+use Rattle.mark_steps.specs.Stepped.{Stepped, bit, ineligibleIn, mayStay}
+use Rattle.mark_steps.proofs.Moving.{none-back, some-back}
 use Rattle.mark_steps.proofs.Passable.{Passable, first-pass, second-pass, third-pass, stepped-on}
 use Rattle.mark_steps.proofs.Values.{value-freed, missing-used, lacking-used, lacking-is}
+use Rattle.mark_steps.proofs.Ways.{all-stay}
 
 -- what a step that moved bonds, or none, leaves
 abbrev pub Moved : (State → ℕ → List ℕ → State) → List ℕ → List ℕ → ℕ → List ℕ → ℕ → Type 0
@@ -63,9 +66,19 @@ module _ {book columns : List ℕ} {e : ℕ} (m : SoundBook book columns) where
         pub ineligible-gives : GivingBack (state book) e nominals
         ineligible-gives = rw ineligible-is (gives-back (state book) e (ineligibleOf (state book) e) (facts-of m) below (sym q ∙ o) (ineligible-returnable (state book) e (facts-of m) below))
 
-        pub ineligible-step : {after : List ℕ} {r : ℕ} → length after ≡ bookLength → Moved giveBack book after e nominals r → Stepped ineligibleBack columns book after e r
+        ineligible-step : {after : List ℕ} {r : ℕ} → length after ≡ bookLength → Moved giveBack book after e nominals r → Stepped ineligibleBack columns book after e r
         unfolding ineligibleBack
         ineligible-step l g = used-step first-pass (sym q ∙ o) l (rw ineligible-is at (g .0)) (g .1)
+
+        module _ {b : Bool} (h : b ≡ all (mayStay position columns x) 64 0) where
+          nothing : b ≡ isEmpty nominals
+          nothing = h ∙ all-stay position columns x ∙ ap isEmpty (sym n)
+
+          pub stays-step : b ≡ true → Stepped ineligibleBack columns book book e 0
+          stays-step t = ineligible-step (m .long) (none-back (state book) e nominals nothing t)
+
+          pub gives-step : b ≡ false → {after : List ℕ} → length after ≡ bookLength → state after ≡ giveBack (state book) e nominals → Stepped ineligibleBack columns book after e 1
+          gives-step f l g = ineligible-step l (some-back (state book) e nominals nothing f (ineligible-gives .enough) g)
 
       -- second pass
       module _ {amount : ℕ} {f : Freed} (a : amount ≡ state book exposures e) (n : f ≡ freed columns position amount) where

@@ -4,6 +4,7 @@ use mathlib.Core.Path.{_≡_}
 use mathlib.Core.Bool.{Bool, cond}
 use mathlib.Core.List.{List}
 use Prim.Native.Nat.{ℕ}
+use lib.Dec.{eqb}
 use lib.ListN.{getD}
 use Rattle.baskets.specs.Fresh.{eligibleBy}
 use Rattle.baskets.specs.declared.Eligibility.{Eligibility}
@@ -25,3 +26,7 @@ pub record Stepped (step : State → ℕ → State) (columns before after : List
 -- the nominals of a position that are not eligible
 abbrev pub ineligibleIn : List ℕ → List ℕ → Eligibility → ℕ → ℕ
 ineligibleIn position columns x i = cond (eligibleBy x columns i) 0 (getD position i 0)
+
+-- what a position holds of a security may stay: it is eligible, or nothing is held
+abbrev pub mayStay : List ℕ → List ℕ → Eligibility → ℕ → Bool
+mayStay position columns x i = eqb (ineligibleIn position columns x i) 0

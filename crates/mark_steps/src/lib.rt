@@ -3,15 +3,16 @@ ghost use mathlib.Core.Path.{_≡_};
 ghost use Prim.Native.Nat.{_<_};
 ghost use lib.ListN.{length};
 ghost use Rattle.laws.specs.Filled.{filled};
+ghost use Rattle.laws.specs.Search.{all};
 ghost use Rattle.book.specs.Layout.{bookLength};
 ghost use Rattle.book.specs.State.{state};
 ghost use Rattle.bonds.specs.Fresh.{FreshBaskets};
 ghost use Rattle.bonds.specs.Moves.{SoundBook, GivingBack};
 ghost use Rattle.rules.specs.Marking.{moved, ineligibleBack, excessBack, shortfallIn, missingOf};
-ghost use Rattle.rules.specs.Stock.{giveBack};
+ghost use Rattle.rules.specs.Stock.{positionOf, giveBack};
 ghost use Rattle.securities.specs.Security.{AllInBounds};
 ghost use Rattle.marking_laws.specs.Pass.{isEmpty};
-ghost use Rattle.mark_steps.specs.Stepped.{Stepped, bit, ineligibleIn};
+ghost use Rattle.mark_steps.specs.Stepped.{Stepped, bit, ineligibleIn, mayStay};
 use baskets::Eligibility;
 use book::layout::EXPOSURES;
 use book::layout::POSITIONS;
@@ -79,6 +80,32 @@ fn ineligible(position: &[u64; 64], columns: &[u64; 256], x: Eligibility) -> [u6
     nominals
 }
 
+// May what an exposure holds of security i stay? It is eligible, or nothing is held.
+fn may_stay(book: &[u8], columns: &[u64; 256], x: Eligibility, e: usize, i: usize) -> bool
+    requires { ⌜ (length (now book) ≡ bookLength) × (e < 64) × (i < 64) × AllInBounds (now columns) ⌝ }
+    ensures { λ r. ⌜ r ≡ mayStay (positionOf (state (now (book .entry))) e) (now (columns .entry)) x i ⌝ }
+{
+    if book::get(book, POSITIONS, 64 * e + i) == 0 {
+        return true;
+    }
+    baskets::is_eligible(x, columns, i)
+}
+
+// May all that an exposure holds stay? Read where it stands, for on most days it does.
+fn may_all_stay(book: &[u8], columns: &[u64; 256], x: Eligibility, e: usize) -> bool
+    requires { ⌜ (length (now book) ≡ bookLength) × (e < 64) × AllInBounds (now columns) ⌝ }
+    ensures { λ r. ⌜ r ≡ all (mayStay (positionOf (state (now (book .entry))) e) (now (columns .entry)) x) 64 0 ⌝ }
+{
+    let mut i: usize = 0;
+    while i < 64 {
+        if !may_stay(book, columns, x, e, i) {
+            return false;
+        }
+        i += 1;
+    }
+    true
+}
+
 // First pass: gives back what is not eligible; 1 where there was anything.
 pub fn give_ineligible(book: &mut [u8], columns: &[u64; 256], since: &[u64; 16], e: usize) -> u64
     requires { ⌜ SoundBook (now book) (now columns) × (e < 64) × FreshBaskets (state (now book)) (now since) ⌝ }
@@ -87,10 +114,14 @@ pub fn give_ineligible(book: &mut [u8], columns: &[u64; 256], since: &[u64; 16],
     if book::get(book, USEDS, e) != 1 {
         return 0;
     }
-    let position = book::row_at(book, POSITIONS, 64 * e);
     let x = bonds::eligibility_of(book, since, e);
+    if may_all_stay(book, columns, x, e) {
+        return 0;
+    }
+    let position = book::row_at(book, POSITIONS, 64 * e);
     let nominals = ineligible(&position, columns, x);
-    give_any_back(book, e, &nominals)
+    bonds::give_back(book, e, &nominals);
+    1
 }
 
 // Second pass: frees the position down to the exposure's amount. An exposure that is not used lacks nothing.

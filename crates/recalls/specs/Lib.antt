@@ -1,1 +1,1 @@
-pub mod Recalling
+pub mod Codes

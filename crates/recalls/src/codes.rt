@@ -5,7 +5,7 @@ ghost use lib.ListN.{length};
 ghost use Rattle.book.specs.Layout.{bookLength};
 ghost use Rattle.book.specs.State.{state};
 ghost use Rattle.records.specs.Writing.{areLegal};
-ghost use Rattle.recalls.specs.Recalling.{namesCode, holdsCode};
+ghost use Rattle.recalls.specs.Codes.{namesCode, holdsCode};
 use book::layout::EXPOSURE_GIVERS;
 use book::layout::LOTS;
 use book::layout::MODES;

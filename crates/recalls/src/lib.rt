@@ -13,7 +13,6 @@ ghost use Rattle.totals.specs.Totals.{totalsOf};
 use totals::Totals;
 
 mod codes;
-mod substitution;
 
 // 11: the code of a recall, found on copies of one account and one position.
 pub fn recall_code(book: &[u8], fields: &[u64; 8]) -> u64

@@ -9,12 +9,12 @@ use native.Mathlib.Numerals.{add-one}
 use native.Mathlib.Omega.{arith}
 use lib.ListN.{length, getD, take, drop, set, length-append}
 use lib.Seq.{take-all, take-at, take-suc, take-suc-set, take-append-le, take-add, getD-take, getD-append-add}
-use Rattle.records.specs.Kinds.{fieldOf, widthOf, offsetOf, lengthOf}
+use Rattle.record_kinds.specs.Kinds.{fieldOf, widthOf, offsetOf, lengthOf}
 use Rattle.laws.specs.Numbers.{bytesOf}
 use Rattle.records.specs.Reading.{fieldIn}
 use Rattle.records.specs.Writing.{imageTo, image}
-use Rattle.records.specs.declared.kinds.Field.{Field}
-use Rattle.records.proofs.Fields.{start-first, start-next, start-mono, length-some}
+use Rattle.record_kinds.specs.declared.Field.{Field}
+use Rattle.record_kinds.proofs.Fields.{start-first, start-next, start-mono, length-some}
 use Rattle.laws.proofs.Numbers.{number-same, bytes-length, number-bytes, bytes-number}
 
 module _ (k : ℕ) (fields : List ℕ) where

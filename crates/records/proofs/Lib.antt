@@ -1,4 +1,3 @@
-pub mod Fields
 pub mod Images
 pub mod Joins
 pub mod Places

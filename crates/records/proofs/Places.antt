@@ -6,10 +6,10 @@ use Prim.Native.Nat.{ℕ, _+_}
 use native.Mathlib.Numerals.{add-one}
 use lib.ListN.{set, replicate}
 use Rattle.laws.specs.Filled.{filled}
-use Rattle.records.specs.Kinds.{fieldOf, offsetOf}
+use Rattle.record_kinds.specs.Kinds.{fieldOf, offsetOf}
 use Rattle.laws.specs.Numbers.{numberAt}
 use Rattle.records.specs.Reading.{fieldIn}
-use Rattle.records.specs.declared.kinds.Field.{Field}
+use Rattle.record_kinds.specs.declared.Field.{Field}
 
 module _ (b : List ℕ) (k : ℕ) where
   pub places-first : replicate 8 0 ≡ filled (fieldIn b k) 8 0

@@ -8,9 +8,9 @@ use lib.Dec.{leb}
 use lib.ListN.{getD}
 use borrow.Author.Tests.{le-leb, lt-leb}
 use Rattle.laws.proofs.Least.{Rest}
-use Rattle.records.specs.Kinds.{fieldOf, inRange}
+use Rattle.record_kinds.specs.Kinds.{fieldOf, inRange}
 use Rattle.records.specs.Writing.{areLegal}
-use Rattle.records.specs.declared.kinds.Field.{Field}
+use Rattle.record_kinds.specs.declared.Field.{Field}
 
 module _ (k j x : ℕ) {f : Field} (it : f ≡ fieldOf k j) where
   pub too-small : x < f .least → false ≡ inRange k j x

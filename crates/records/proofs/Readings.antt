@@ -11,7 +11,7 @@ use borrow.Author.Tests.{ltb-true, not-false}
 use Rattle.answers.specs.Answers.{malformed, outOfRange}
 use Rattle.laws.specs.Filled.{filled}
 use Rattle.laws.proofs.Cases.{or-left, or-right}
-use Rattle.records.specs.Kinds.{known, lengthOf, inRanges}
+use Rattle.record_kinds.specs.Kinds.{known, lengthOf, inRanges}
 use Rattle.records.specs.Reading.{read, taken, refused, fieldIn, isMalformed}
 use Rattle.records.specs.Writing.{areLegal}
 use Rattle.records.specs.declared.Reading as declared

@@ -14,12 +14,12 @@ use Rattle.laws.specs.Filled.{filled}
 use Rattle.laws.proofs.Cases.{and-right, or-left, or-right}
 use Rattle.laws.proofs.Filled.{filled-length, filled-at}
 use Rattle.laws.proofs.Least.{all-at}
-use Rattle.records.specs.Kinds.{known, fieldOf, widthOf, lengthOf, inRange, inRanges}
+use Rattle.record_kinds.specs.Kinds.{known, fieldOf, widthOf, lengthOf, inRange, inRanges}
 use Rattle.records.specs.Reading.{read, taken, refused, fieldIn, isMalformed}
 use Rattle.records.specs.RoundTrip.{ReadsBack, WritesBack}
 use Rattle.records.specs.Writing.{areLegal, image, misfits, writeCode, written}
 use Rattle.records.specs.declared.Reading as declared
-use Rattle.records.proofs.Fields.{greatest-fits}
+use Rattle.record_kinds.proofs.Fields.{greatest-fits}
 use Rattle.records.proofs.Images.{image-length, image-kind, image-field, image-back}
 use Rattle.records.proofs.Ways.{legal-filled, read-legal, part-filled, write-legal}
 

@@ -12,11 +12,11 @@ use Rattle.answers.specs.Answers.{malformed, outOfRange}
 use Rattle.laws.specs.Filled.{filled}
 use Rattle.laws.proofs.Filled.{filled-at}
 use Rattle.laws.proofs.Least.{all-same}
-use Rattle.records.specs.Kinds.{inRange, inRanges, lengthOf}
+use Rattle.record_kinds.specs.Kinds.{inRange, inRanges, lengthOf}
 use Rattle.records.specs.Reading.{taken, refused, fieldIn, isMalformed, read}
 use Rattle.records.specs.Writing.{areLegal, image, misfits, writeCode, written}
 use Rattle.records.specs.declared.Reading as declared
-use Rattle.records.proofs.Fields.{length-some}
+use Rattle.record_kinds.proofs.Fields.{length-some}
 
 -- eight numbers that a rule gives are legal where the rule's are
 pub legal-filled : (k : ℕ) (f : ℕ → ℕ) → areLegal k (filled f 8 8) ≡ inRanges k f

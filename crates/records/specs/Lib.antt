@@ -1,4 +1,3 @@
-pub mod Kinds
 pub mod Reading
 pub mod RoundTrip
 pub mod Writing

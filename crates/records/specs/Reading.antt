@@ -7,7 +7,7 @@ use lib.Dec.{eqb}
 use lib.ListN.{length, getD, replicate}
 use Rattle.answers.specs.Answers.{malformed, outOfRange}
 use Rattle.laws.specs.Filled.{filled}
-use Rattle.records.specs.Kinds.{known, widthOf, offsetOf, lengthOf, inRanges}
+use Rattle.record_kinds.specs.Kinds.{known, widthOf, offsetOf, lengthOf, inRanges}
 use Rattle.laws.specs.Numbers.{numberAt}
 use Rattle.records.specs.declared.Reading as declared
 

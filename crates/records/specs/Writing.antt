@@ -6,7 +6,7 @@ use Prim.Native.Nat.{ℕ, zero, suc}
 use lib.Dec.{eqb}
 use lib.ListN.{length, getD}
 use Rattle.answers.specs.Answers.{malformed, outOfRange}
-use Rattle.records.specs.Kinds.{known, widthOf, lengthOf, inRanges}
+use Rattle.record_kinds.specs.Kinds.{known, widthOf, lengthOf, inRanges}
 use Rattle.laws.specs.Numbers.{bytesOf}
 
 -- the bytes of a record up to its field j: one byte of kind, then the fields in order

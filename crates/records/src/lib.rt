@@ -1,17 +1,15 @@
-// Records: one byte of kind, then the kind's fields, big-endian. A reader and a writer over the one table of src/kinds.rt.
+// Records: one byte of kind, then the kind's fields, big-endian. A reader and a writer over the one table of record_kinds.
 ghost use mathlib.Core.Path.{_≡_};
 ghost use mathlib.Core.List.{_++_};
 ghost use Prim.Native.Nat.{_+_, _≤_, _<_};
 ghost use lib.ListN.{length, getD, take, drop};
 ghost use Rattle.laws.specs.Filled.{filled};
-ghost use Rattle.records.specs.Kinds.{offsetOf, lengthOf, inRange, inRanges};
+ghost use Rattle.record_kinds.specs.Kinds.{lengthOf, inRange};
 ghost use Rattle.laws.specs.Numbers.{numberAt, bytesOf};
 ghost use Rattle.records.specs.Reading.{read, refused, fieldIn};
 ghost use Rattle.records.specs.Writing.{areLegal, image, writeCode, written};
 use answers::MALFORMED;
 use answers::OUT_OF_RANGE;
-
-mod kinds;
 
 // What the reader answers: code 0, the kind and the numbers of its fields in order, 0 past the last;
 // or the code of a refusal and zeros.
@@ -22,34 +20,12 @@ pub struct Reading {
     pub fields: [u64; 8],
 }
 
-// The bytes of a record of a kind, its kind's byte included: each length is proved to be that of the kind's fields.
-pub fn length_of(k: usize) -> usize
-    requires { ⌜ k < 13 ⌝ }
-    ensures { λ r. ⌜ r ≡ lengthOf k ⌝ }
-{
-    match k {
-        0 => 9,
-        1 => 16,
-        2 => 8,
-        3 => 11,
-        4 => 7,
-        5 => 7,
-        6 => 29,
-        7 => 25,
-        8 => 6,
-        9 => 1,
-        10 => 1,
-        11 => 8,
-        _ => 1,
-    }
-}
-
 // Is a number in the range of the field j of the kind k?
 fn is_in_range(k: usize, j: usize, x: u64) -> bool
     requires { ⌜ (k < 13) × (j < 8) ⌝ }
     ensures { λ r. ⌜ r ≡ inRange k j x ⌝ }
 {
-    let f = kinds::field_of(k, j);
+    let f = record_kinds::field_of(k, j);
     if x < f.least {
         return false;
     }
@@ -139,7 +115,7 @@ fn fields_of(bytes: &[u8], k: usize) -> [u64; 8]
     let mut at: usize = 1;
     let mut j: usize = 0;
     while j < 8 {
-        let w = kinds::field_of(k, j).bytes;
+        let w = record_kinds::field_of(k, j).bytes;
         fields[j] = number_at(bytes, at, w);
         at += w;
         j += 1;
@@ -169,7 +145,7 @@ pub extern "C" fn records_read(bytes: &[u8]) -> Reading
     if 13 <= k {
         return refuse(MALFORMED);
     }
-    if bytes.len() != length_of(k) {
+    if bytes.len() != record_kinds::length_of(k) {
         return refuse(MALFORMED);
     }
     let fields = fields_of(bytes, k);
@@ -206,7 +182,7 @@ fn put_record(part: &mut [u8], k: usize, fields: &[u64; 8])
     let mut at: usize = 1;
     let mut j: usize = 0;
     while j < 8 {
-        let w = kinds::field_of(k, j).bytes;
+        let w = record_kinds::field_of(k, j).bytes;
         put_number(part, at, w, fields[j]);
         at += w;
         j += 1;
@@ -224,7 +200,7 @@ pub extern "C" fn records_write(kind: u64, fields: &[u64; 8], part: &mut [u8]) -
         return MALFORMED;
     }
     let k = kind as usize;
-    if part.len() != length_of(k) {
+    if part.len() != record_kinds::length_of(k) {
         return MALFORMED;
     }
     if !are_in_ranges(k, fields) {

@@ -135,7 +135,7 @@ pub fn exposure_code(book: &[u8], fields: &[u64; 8]) -> u64
     if request_search::free_exposure(book) != 64 {
         return 0;
     }
-    if sound_requests::exposure_with(book, fields[1], fields[2], fields[3], fields[6]) != 64 {
+    if exposure_search::exposure_with(book, fields[1], fields[2], fields[3], fields[6]) != 64 {
         return 0;
     }
     if does_pair_now(book, 6, fields) {

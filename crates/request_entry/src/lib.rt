@@ -78,7 +78,7 @@ pub fn join_exposure(book: &mut [u8], kind: u64, fields: &[u64; 8])
     if kind != 6 {
         return;
     }
-    if sound_requests::exposure_with(book, fields[1], fields[2], fields[3], fields[6]) != 64 {
+    if exposure_search::exposure_with(book, fields[1], fields[2], fields[3], fields[6]) != 64 {
         return;
     }
     let e = request_search::free_exposure(book);

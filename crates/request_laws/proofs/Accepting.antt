@@ -13,7 +13,7 @@ use Rattle.laws.proofs.Cases.{either, or-left, or-right}
 use Rattle.calendar.specs.Target.{openDay}
 use Rattle.book.specs.Layout.{tolerance, nextNumber, numbers, useds, exposureGivers, exposureTakers}
 use Rattle.book.specs.State.{State}
-use Rattle.records.specs.Kinds.{kinds}
+use Rattle.record_kinds.specs.Kinds.{kinds}
 use Rattle.records.specs.Writing.{areLegal}
 use Rattle.rules.specs.Codes.{fopRules, returnRules}
 use Rattle.rules.specs.Outcome.{lowest}

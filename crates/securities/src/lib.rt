@@ -30,13 +30,17 @@ pub fn security_at(columns: &[u64; 256], i: usize) -> Security
     }
 }
 
-// The value of one security of a position.
+// The value of one security of a position. Most positions hold few securities, so those not held are passed over.
 fn value_at(nominals: &[u64; 64], columns: &[u64; 256], i: usize) -> u64
     requires { ⌜ (i < 64) × AllInBounds (now columns) × Within (nominalsOf (now nominals)) ⌝ }
     ensures { λ r. ⌜ r ≡ valueAt (now (columns .entry)) (nominalsOf (now (nominals .entry))) i ⌝ }
 {
+    let nominal = nominals[i];
+    if nominal == 0 {
+        return 0;
+    }
     let s = security_at(columns, i);
-    valuation::value_of(nominals[i], s.pricing)
+    valuation::value_of(nominal, s.pricing)
 }
 
 // The value of a position: the sum over its securities, each at its whole nominal.

@@ -1,3 +1,2 @@
-pub mod Amounts
-pub mod Pairs
+pub mod Keyed
 pub mod Passes

@@ -16,11 +16,12 @@ use Rattle.totals.specs.declared.Totals.{Totals}
 use Rattle.totals.specs.Totals.{totalsOf}
 use Rattle.bonds.specs.Fresh.{SamePrices}
 use Rattle.bonds.proofs.Fresh.{same-start, same-prices, same-then}
-use Rattle.settlement_laws.proofs.Finding.{due-row}
+use Rattle.settlement_laws.proofs.Finding.{Due, due-row}
 use Rattle.settlement_laws.proofs.Settling.{return-good, fop-good}
-use Rattle.settlement.specs.Pairs.{PairOf, returnLeft, fopLeft}
+use Rattle.settlement_laws.proofs.Staying.{Stays, stays-start, return-stays, fop-stays}
+use Rattle.pair_settlement.specs.Pairs.{PairOf, returnLeft, fopLeft}
 use Rattle.settlement.specs.Passes.{begun, Alike, settleOf, allOf, Room, Within, Passed}
-use Rattle.settlement.proofs.Pairs.{pair-fields, kind-of}
+use Rattle.pair_settlement.proofs.Pairs.{pair-fields, kind-of}
 
 -- one pair, as the code counts it
 module _ (s : State) (t : Totals) (i : ℕ) {kind x : ℕ} {u : State} where
@@ -54,13 +55,14 @@ module _ (s : State) (t : Totals) (i : ℕ) {kind x : ℕ} {u : State} where
 pub fop-kind : {s : State} {kind i : ℕ} → Good s → PairOf s kind i → (kind ≡ 7 → ⊥) → PairOf s 6 i
 fop-kind g p n = record { below = p .below; used = p .used; paired = p .paired; kind-is = kind-of g (pair-fields g p .kind) (λ e. n (sym (p .kind-is) ∙ e)) }
 
--- the row that is due, as a pair
-pub due-pair : (s : State) (kind last : ℕ) {i : ℕ} → i ≡ nextDue s kind last → (i ≡ 256 → ⊥) → PairOf s kind i
-due-pair s kind last q n =
-    let d = due-row s kind last (λ z. n (q ∙ z)) in
-    rw q (record { below = d .below; used = d .used; paired = d .paired; kind-is = d .same-kind })
+-- the row that is due, and it as a pair
+pub due-at : (s : State) (kind last : ℕ) {i : ℕ} → i ≡ nextDue s kind last → (i ≡ 256 → ⊥) → Due s kind last i
+due-at s kind last q n = rw q (due-row s kind last (λ z. n (q ∙ z)))
 
--- the state that one pair leaves: good, with the same prices
+pub due-pair : (s : State) (kind last : ℕ) {i : ℕ} → i ≡ nextDue s kind last → (i ≡ 256 → ⊥) → PairOf s kind i
+due-pair s kind last q n = let d = due-at s kind last q n in record { below = d .below; used = d .used; paired = d .paired; kind-is = d .same-kind }
+
+-- the state that one pair leaves: good, with the same prices, and the same pairs due after it
 module _ (s : State) (kind i : ℕ) (g : Good s) (p : PairOf s kind i) where
   good-return : kind ≡ 7 → Good (returnLeft s i)
   good-return k =
@@ -92,6 +94,14 @@ module _ (s : State) (kind i : ℕ) (g : Good s) (p : PairOf s kind i) where
       (λ e. rw e (same-prices s (fopSettled s i) (λ j. refl) (λ j. refl) (λ j. refl) (λ j. refl) refl (λ b. refl)))
       (either (eqb (fopAmount s i) 0))
 
+  stays-return : {last : ℕ} → Due s kind last i → Stays kind (orderOf s i) s (returnLeft s i)
+  stays-return {last} d =
+      ⊎-elim (λ e. rw e (stays-start kind (orderOf s i) s)) (λ e. rw e (return-stays s kind last i g d)) (either (eqb (returnAmount s i) 0))
+
+  stays-fop : {last : ℕ} → Due s kind last i → Stays kind (orderOf s i) s (fopLeft s i)
+  stays-fop {last} d =
+      ⊎-elim (λ e. rw e (stays-start kind (orderOf s i) s)) (λ e. rw e (fop-stays s kind last i g d)) (either (eqb (fopAmount s i) 0))
+
   return-left : (t : Totals) → settleReturn (begun s t) i .state ≡ returnLeft s i
   unfolding settleReturn
   return-left t = ⊎-elim (λ e. rw e) (λ e. rw e) (either (eqb (returnAmount s i) 0))
@@ -113,6 +123,13 @@ module _ (s : State) (kind i : ℕ) (g : Good s) (p : PairOf s kind i) where
         elim (ℕ-discrete kind 7) [
           | yes k ↦ rw (a .state, eq-eqb kind 7 k, return-left t) prices-return
           | no k ↦ rw (a .state, ne-eqb kind 7 k, fop-left t) prices-fop
+        ]
+
+    pub pair-stays : {last : ℕ} → Due s kind last i → Stays kind (orderOf s i) s u
+    pair-stays d =
+        elim (ℕ-discrete kind 7) [
+          | yes k ↦ rw (a .state, eq-eqb kind 7 k, return-left t) (stays-return d)
+          | no k ↦ rw (a .state, ne-eqb kind 7 k, fop-left t) (stays-fop d)
         ]
 
 -- what is the same but for the events goes on the same

@@ -1,118 +1,17 @@
 // Kind 9, settle: the live pairs that are due, returns before FOPs, by settlement date and then in the order in which they paired.
 ghost use mathlib.Core.Path.{_≡_};
 ghost use mathlib.Core.Bool.{true};
-ghost use Prim.Native.Nat.{_<_, _≤_};
 ghost use lib.ListN.{length};
 ghost use Rattle.bonds.specs.Fresh.{FreshBaskets};
-ghost use Rattle.book.specs.Layout.{settleds, amounts, exposures, bookLength};
-ghost use Rattle.book.specs.State.{state, put, columnsOf};
+ghost use Rattle.book.specs.Layout.{bookLength};
+ghost use Rattle.book.specs.State.{state, columnsOf};
 ghost use Rattle.facts.proofs.Keeps.{Good};
-ghost use Rattle.rules.specs.Requests.{restOf, exposureOfFop};
-ghost use Rattle.rules.specs.Settlement.{bothSettled, returnAmount, fopAmount, settlement};
+ghost use Rattle.pair_settlement.specs.Pairs.{PairOf};
+ghost use Rattle.rules.specs.Settlement.{settlement};
 ghost use Rattle.rules.specs.Sound.{sound};
 ghost use Rattle.totals.specs.Totals.{totalsOf};
-ghost use Rattle.settlement.specs.Pairs.{PairOf, Settleable, amountFor, returnLeft, fopLeft};
 ghost use Rattle.settlement.specs.Passes.{begun, Alike, settleOf, Room, Within, Passed};
-use book::layout::AMOUNTS;
-use book::layout::CLOSINGS;
-use book::layout::EXPOSURES;
-use book::layout::GIVERS;
-use book::layout::OBJECTS;
-use book::layout::PAIR_PARTIALS;
-use book::layout::PARTNERS;
-use book::layout::SETTLEDS;
-use book::layout::TAKERS;
-use book::layout::TOLERANCE;
 use totals::Totals;
-
-// What is left to settle.
-fn rest_of(book: &[u8], i: usize) -> u64
-    requires { ⌜ (length (now book) ≡ bookLength) × (i < 256) × (state (now book) settleds i ≤ state (now book) amounts i) ⌝ }
-    ensures { λ r. ⌜ r ≡ restOf (state (now (book .entry))) i ⌝ }
-{
-    book::get(book, AMOUNTS, i) - book::get(book, SETTLEDS, i)
-}
-
-// Both rows of a pair have settled so much more, and the exposure has a new amount.
-fn note_settled(book: &mut [u8], i: usize, x: u64, e: usize, exposure: u64)
-    requires { ⌜ (length (now book) ≡ bookLength) × Settleable (state (now book)) i x × (e < 64) ⌝ }
-    ensures { λ _. ⌜ state (now (book .exit)) ≡ put (bothSettled (state (now (book .entry))) i x) exposures e exposure ⌝ }
-{
-    let j = (book::get(book, PARTNERS, i) - 1) as usize;
-    let own = book::get(book, SETTLEDS, i);
-    let other = book::get(book, SETTLEDS, j);
-    book::set(book, SETTLEDS, i, own + x);
-    book::set(book, SETTLEDS, j, other + x);
-    book::set(book, EXPOSURES, e, exposure);
-}
-
-// Settles a return: the lesser of its rest and the exposure, which is lowered and freed. The cents settled.
-fn settle_return(book: &mut [u8], columns: &[u64; 256], i: usize) -> u64
-    requires { ⌜ (length (now book) ≡ bookLength) × Good (state (now book)) × PairOf (state (now book)) 7 i × (now columns ≡ columnsOf (state (now book))) ⌝ }
-    ensures { λ r. ⌜ (r ≡ returnAmount (state (now (book .entry))) i) × (state (now (book .exit)) ≡ returnLeft (state (now (book .entry))) i) ⌝ }
-{
-    let e = book::get(book, OBJECTS, i) as usize;
-    let exposure = book::get(book, EXPOSURES, e);
-    let x = parcels::smaller(rest_of(book, i), exposure);
-    if x == 0 {
-        return 0;
-    }
-    note_settled(book, i, x, e, exposure - x);
-    bonds::free_down(book, columns, e, exposure - x);
-    x
-}
-
-// The exposure that a FOP pair belongs to.
-fn exposure_of_fop(book: &[u8], i: usize) -> usize
-    requires { ⌜ (length (now book) ≡ bookLength) × (i < 256) ⌝ }
-    ensures { λ r. ⌜ r ≡ exposureOfFop (state (now (book .entry))) i ⌝ }
-{
-    sound_requests::exposure_with(
-        book,
-        book::get(book, GIVERS, i),
-        book::get(book, TAKERS, i),
-        book::get(book, OBJECTS, i),
-        book::get(book, CLOSINGS, i),
-    )
-}
-
-// What a FOP settles of its rest, for the value found: all of it where less than the tolerance is missing, else what was found,
-// where both parties allowed partial settlement.
-fn amount_for(book: &[u8], i: usize, rest: u64, found: u64) -> u64
-    requires { ⌜ (length (now book) ≡ bookLength) × (i < 256) × (found ≤ rest) ⌝ }
-    ensures { λ r. ⌜ r ≡ amountFor (state (now (book .entry))) i rest found ⌝ }
-{
-    if rest - found < book::get(book, TOLERANCE, 0) {
-        return rest;
-    }
-    if book::get(book, PAIR_PARTIALS, i) == 1 {
-        found
-    } else {
-        0
-    }
-}
-
-// Settles a FOP: Picks its rest, and the exposure grows by what settles. The cents settled.
-fn settle_fop(book: &mut [u8], columns: &[u64; 256], since: &[u64; 16], i: usize) -> u64
-    requires { ⌜ (length (now book) ≡ bookLength) × Good (state (now book)) × PairOf (state (now book)) 6 i × (now columns ≡ columnsOf (state (now book))) × FreshBaskets (state (now book)) (now since) ⌝ }
-    ensures { λ r. ⌜ (r ≡ fopAmount (state (now (book .entry))) i) × (state (now (book .exit)) ≡ fopLeft (state (now (book .entry))) i) ⌝ }
-{
-    let e = exposure_of_fop(book, i);
-    let exposure = book::get(book, EXPOSURES, e);
-    let rest = rest_of(book, i);
-    if 10000000000000 < exposure + rest {
-        return 0;
-    }
-    let outcome = bonds::pick_for(book, columns, since, e, rest);
-    let x = amount_for(book, i, rest, outcome.value);
-    if x == 0 {
-        return 0;
-    }
-    note_settled(book, i, x, e, exposure + x);
-    let nominals = outcome.nominals;
-    bonds::pledge(book, e, &nominals);
-    x
-}
 
 // Settles one pair, and counts it where something settled.
 fn settle_pair(
@@ -127,7 +26,7 @@ fn settle_pair(
     ensures { λ r. ⌜ Alike (begun (state (now (book .exit))) r) (settleOf kind (begun (state (now (book .entry))) t) i) × Within t 1 r ⌝ }
 {
     if kind == 7 {
-        let x = settle_return(book, columns, i);
+        let x = pair_settlement::settle_return(book, columns, i);
         if x == 0 {
             return t;
         }
@@ -137,7 +36,7 @@ fn settle_pair(
             m: t.m + x,
         };
     }
-    let x = settle_fop(book, columns, since, i);
+    let x = pair_settlement::settle_fop(book, columns, since, i);
     if x == 0 {
         return t;
     }
@@ -148,7 +47,7 @@ fn settle_pair(
     }
 }
 
-// Settles the pairs of a kind in their order, each once.
+// Settles the pairs of a kind in their order, each once. Which are due is found once: settling one leaves those after it due.
 fn settle_pairs(
     book: &mut [u8],
     columns: &[u64; 256],
@@ -159,16 +58,18 @@ fn settle_pairs(
     requires { ⌜ (length (now book) ≡ bookLength) × Good (state (now book)) × (now columns ≡ columnsOf (state (now book))) × Room 256 start × FreshBaskets (state (now book)) (now since) ⌝ }
     ensures { λ r. ⌜ Passed kind (state (now (book .entry))) start (state (now (book .exit))) r ⌝ }
 {
+    let mut keys = [0u64; 256];
+    let count = due_pairs::collect(book, kind, &mut keys);
     let mut total = start;
     let mut last: u64 = 0;
     let mut n: usize = 0;
     while n < 256 {
-        let i = due_pairs::next_due(book, kind, last);
-        if i == 256 {
+        let key = due_pairs::next_key(&keys, count, (last + 1) * 256);
+        if key == due_pairs::NO_KEY {
             return total;
         }
-        last = due_pairs::order_of(book, i);
-        total = settle_pair(book, columns, since, kind, i, total);
+        last = key / 256;
+        total = settle_pair(book, columns, since, kind, (key % 256) as usize, total);
         n += 1;
     }
     total

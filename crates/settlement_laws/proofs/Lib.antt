@@ -2,3 +2,4 @@ pub mod Finding
 pub mod Keeping
 pub mod Pairs
 pub mod Settling
+pub mod Staying

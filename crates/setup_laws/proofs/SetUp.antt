@@ -15,7 +15,7 @@ use Rattle.laws.specs.Sum.{sum}
 use Rattle.laws.proofs.Cases.{either}
 use Rattle.calendar.specs.Target.{openDay}
 use Rattle.calendar.proofs.OpenDays.{open-within}
-use Rattle.records.specs.Kinds.{kinds}
+use Rattle.record_kinds.specs.Kinds.{kinds}
 use Rattle.records.specs.Writing.{areLegal}
 use Rattle.book.specs.Layout.{today, tolerance, nextNumber, lots, prices, haircuts, quotes, modes, lists, partials, waitingModes, waitingLists, waitingPartials, maps, ages, exposures, accounts, rowsOf, widthOf}
 use Rattle.book.specs.State.{State, put, Fits}

@@ -17,8 +17,8 @@ use Rattle.book.specs.Layout.{useds, exposureGivers, exposureTakers, exposureBa
 use Rattle.book.specs.State.{State}
 use Rattle.rules.specs.Sound.{same, alike, otherKey, distinctKey}
 use Rattle.facts.proofs.Facts.{all-of}
-use Rattle.sound_setup.specs.Keys.{keyPlace}
-use Rattle.sound_exposures.specs.Keys.{placeOf, KeysMarked}
+use Rattle.exposure_search.specs.Places.{placeOf}
+use Rattle.sound_exposures.specs.Keys.{KeysMarked}
 
 -- equal keys have one place
 alike-place : (s : State) (e d : ℕ) → alike s 4 exposureGivers e d ≡ true → placeOf s e ≡ placeOf s d
@@ -29,10 +29,6 @@ alike-place s e d h =
 fails : (a b : Bool) → b ≡ false → not (a && b) ≡ true
 fails true b h = rw h
 fails false b h = refl
-
--- the place by what was read
-pub place-read : (s : State) (e : ℕ) {r g t b c : ℕ} → g ≡ s exposureGivers e → t ≡ s exposureTakers e → b ≡ s exposureBaskets e → c ≡ s exposureClosings e → r ≡ keyPlace g t b c → r ≡ placeOf s e
-place-read s e gq tq bq cq q = rw (← gq, ← tq, ← bq, ← cq) q
 
 -- a key at whose place there is no mark differs from all before; and one more mark
 module _ (s : State) (marks : List ℕ) (e : ℕ) (m : KeysMarked s marks e) {p : ℕ} (pq : p ≡ placeOf s e) where

@@ -4,13 +4,8 @@ use mathlib.Core.List.{List}
 use mathlib.Core.Path.{_≡_}
 use Prim.Native.Nat.{ℕ, _<_}
 use lib.ListN.{length, getD}
-use Rattle.book.specs.Layout.{exposureGivers, exposureTakers, exposureBaskets, exposureClosings}
 use Rattle.book.specs.State.{State}
-use Rattle.sound_setup.specs.Keys.{keyPlace}
-
--- the place of the key of the exposure e
-abbrev pub placeOf : State → ℕ → ℕ
-placeOf s e = keyPlace (s exposureGivers e) (s exposureTakers e) (s exposureBaskets e) (s exposureClosings e)
+use Rattle.exposure_search.specs.Places.{placeOf}
 
 -- the keys before e are marked, each at its place
 pub record KeysMarked (s : State) (marks : List ℕ) (e : ℕ) : Type 0 where

@@ -8,7 +8,7 @@ ghost use Rattle.book.specs.Layout.{bookLength};
 ghost use Rattle.book.specs.State.{state};
 ghost use Rattle.rules.specs.Sound.{soundExposure, otherKey, distinctKey};
 ghost use Rattle.sound_setup.specs.Days.{OpenDays};
-ghost use Rattle.sound_exposures.specs.Keys.{placeOf, KeysMarked};
+ghost use Rattle.sound_exposures.specs.Keys.{KeysMarked};
 use book::layout::EXPOSURE_BASKETS;
 use book::layout::EXPOSURE_CLOSINGS;
 use book::layout::EXPOSURE_GIVERS;
@@ -95,19 +95,6 @@ fn is_distinct_key(book: &[u8], e: usize) -> bool
     true
 }
 
-// The place of an exposure's key among the marks.
-fn place_of(book: &[u8], e: usize) -> usize
-    requires { ⌜ (length (now book) ≡ bookLength) × (e < 64) ⌝ }
-    ensures { λ r. ⌜ (r ≡ placeOf (state (now (book .entry))) e) × (r < 1024) ⌝ }
-{
-    sound_setup::key_place(
-        book::get(book, EXPOSURE_GIVERS, e),
-        book::get(book, EXPOSURE_TAKERS, e),
-        book::get(book, EXPOSURE_BASKETS, e),
-        book::get(book, EXPOSURE_CLOSINGS, e),
-    )
-}
-
 // A distinct key by the marks: one at whose place there is none differs from all before.
 fn is_new_key(book: &[u8], marks: &[u8; 1024], e: usize) -> bool
     requires { ⌜ (length (now book) ≡ bookLength) × (e < 64) × KeysMarked (state (now book)) (now marks) e ⌝ }
@@ -116,7 +103,7 @@ fn is_new_key(book: &[u8], marks: &[u8; 1024], e: usize) -> bool
     if book::get(book, USEDS, e) == 0 {
         return true;
     }
-    let place = place_of(book, e);
+    let place = exposure_search::place_of(book, e);
     if marks[place] == 0 {
         return true;
     }
@@ -127,7 +114,7 @@ fn mark_key(marks: &mut [u8; 1024], book: &[u8], e: usize)
     requires { ⌜ (length (now book) ≡ bookLength) × (e < 64) × KeysMarked (state (now book)) (now marks) e ⌝ }
     ensures { λ _. ⌜ KeysMarked (state (now (book .entry))) (now (marks .exit)) (e + 1) ⌝ }
 {
-    let place = place_of(book, e);
+    let place = exposure_search::place_of(book, e);
     marks[place] = 1;
 }
 

@@ -1,4 +1,3 @@
 pub mod Blocks
 pub mod Later
-pub mod Marks
 pub mod Ways

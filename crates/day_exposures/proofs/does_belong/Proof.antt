@@ -29,8 +29,20 @@ get-requires-4 c κs = search needs
 returns-4 : tie.Need-returns-4
 returns-4 c = search no-pair
 
-has-key-of-requires : tie.Need-has-key-of-requires
-has-key-of-requires c κs = search needs
+get-requires-5 : tie.Need-get-requires-5
+get-requires-5 c κs = search needs
+
+get-requires-6 : tie.Need-get-requires-6
+get-requires-6 c κs = search needs
+
+get-requires-7 : tie.Need-get-requires-7
+get-requires-7 c κs = search needs
+
+get-requires-8 : tie.Need-get-requires-8
+get-requires-8 c κs = search needs
+
+has-key-requires : tie.Need-has-key-requires
+has-key-requires c κs = search needs
 
 returns-5 : tie.Need-returns-5
 returns-5 c = search by-pair
@@ -47,5 +59,9 @@ does-belong-spec =
     returns-3
     get-requires-4
     returns-4
-    has-key-of-requires
+    get-requires-5
+    get-requires-6
+    get-requires-7
+    get-requires-8
+    has-key-requires
     returns-5)

@@ -6,7 +6,7 @@ use native.Mathlib.Omega.{arith}
 use lib.ListN.{getD}
 use borrow.Author.Needs.{needs}
 use Rattle.rules.specs.Call.{callAnswer}
-use Rattle.lines.proofs.Texts.{answer-put}
+use Rattle.lines.proofs.Answers.{answer-put}
 use Rattle.lines.proofs.serve_record.Statement.{statement}
 use Rattle.lines.proofs.serve_record.Tie as tie
 

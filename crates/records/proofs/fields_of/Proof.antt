@@ -5,9 +5,9 @@ use Prim.Native.Nat.{_-_, _≤_}
 use native.Mathlib.Omega.{arith}
 use borrow.Author.Needs.{needs}
 use Rattle.laws.specs.Filled.{filled}
-use Rattle.records.specs.Kinds.{offsetOf}
+use Rattle.record_kinds.specs.Kinds.{offsetOf}
 use Rattle.records.specs.Reading.{fieldIn}
-use Rattle.records.proofs.Fields.{start-first, place-next, place-inside, place-fits, field-narrow}
+use Rattle.record_kinds.proofs.Fields.{start-first, place-next, place-inside, place-fits, field-narrow}
 use Rattle.records.proofs.Places.{places-first, places-next}
 use Rattle.records.proofs.fields_of.Statement.{statement}
 use Rattle.records.proofs.fields_of.Tie as tie

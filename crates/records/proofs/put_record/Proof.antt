@@ -5,9 +5,9 @@ use Prim.Native.Nat.{_-_, _≤_}
 use native.Mathlib.Omega.{arith}
 use borrow.Author.Needs.{needs}
 use lib.ListN.{length, take}
-use Rattle.records.specs.Kinds.{offsetOf, lengthOf}
+use Rattle.record_kinds.specs.Kinds.{offsetOf, lengthOf}
 use Rattle.records.specs.Writing.{imageTo}
-use Rattle.records.proofs.Fields.{start-first, length-some, place-next, place-inside, place-fits}
+use Rattle.record_kinds.proofs.Fields.{start-first, length-some, place-next, place-inside, place-fits}
 use Rattle.records.proofs.Images.{fill-start, fill-next, fill-end}
 use Rattle.records.proofs.put_record.Statement.{statement}
 use Rattle.records.proofs.put_record.Tie as tie

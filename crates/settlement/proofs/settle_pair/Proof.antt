@@ -4,7 +4,7 @@ use Prim.Native.Nat.{_≤_}
 use native.Mathlib.Omega.{arith}
 use Rattle.book.specs.State.{state}
 use Rattle.settlement_laws.proofs.Settling.{fop-within}
-use Rattle.settlement.proofs.Pairs.{rest-le}
+use Rattle.pair_settlement.proofs.Pairs.{rest-le}
 use Rattle.settlement.proofs.Passes.{return-uncounted, return-counted, fop-uncounted, fop-counted, fop-kind}
 use borrow.Author.Needs.{needs}
 use Rattle.settlement.proofs.settle_pair.Statement.{statement}

@@ -1,0 +1,35 @@
+-- `exposure_search::put_hints` meets its contract.
+-- Assumes nothing.
+use Prim.Native.Nat.{_-_, _≤_}
+use borrow.Author.Needs.{needs}
+use Rattle.exposure_search.proofs.put_hints.Statement.{statement}
+use Rattle.exposure_search.proofs.put_hints.Tie as tie
+
+abbrev Inv-loop : tie.InvT-loop
+Inv-loop hints₀ book e₀ hints e = e ≤ 64
+
+abbrev μ-loop : tie.MeasureT-loop
+μ-loop hints₀ book e₀ hints e = 64 - e
+
+loop-holds : tie.Need-loop-holds Inv-loop μ-loop
+loop-holds c = search needs
+
+put-hint-requires : tie.Need-put-hint-requires Inv-loop μ-loop
+put-hint-requires c κs = search needs
+
+add-e : tie.Need-add-e Inv-loop μ-loop
+add-e c = search needs
+
+loop-less : tie.Need-loop-less Inv-loop μ-loop
+loop-less c = search needs
+
+loop-again : tie.Need-loop-again Inv-loop μ-loop
+loop-again c = search needs
+
+returns : tie.Need-returns Inv-loop μ-loop
+returns c = search needs
+
+pub put-hints-spec : {M : Type 1} → statement M
+put-hints-spec =
+    tie.close
+    (tie.spec Inv-loop μ-loop loop-holds put-hint-requires add-e loop-less loop-again returns)

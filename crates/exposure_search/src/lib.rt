@@ -1,0 +1,110 @@
+// The used exposure with a key: found among all, or tried first where a table of hints says.
+ghost use mathlib.Core.Path.{_≡_};
+ghost use Prim.Native.Nat.{_<_};
+ghost use lib.Dec.{ltb};
+ghost use lib.ListN.{length};
+ghost use Rattle.book.specs.Layout.{bookLength};
+ghost use Rattle.book.specs.State.{state};
+ghost use Rattle.rules.specs.Requests.{hasKey, exposureWith};
+ghost use Rattle.exposure_search.specs.Places.{placeOf};
+use book::layout::EXPOSURE_BASKETS;
+use book::layout::EXPOSURE_CLOSINGS;
+use book::layout::EXPOSURE_GIVERS;
+use book::layout::EXPOSURE_TAKERS;
+use book::layout::USEDS;
+
+// Is the exposure e used, with this key?
+pub fn has_key(book: &[u8], giver: u64, taker: u64, basket: u64, closing: u64, e: usize) -> bool
+    requires { ⌜ (length (now book) ≡ bookLength) × (e < 64) ⌝ }
+    ensures { λ r. ⌜ r ≡ hasKey (state (now (book .entry))) giver taker basket closing e ⌝ }
+{
+    if book::get(book, USEDS, e) != 1 {
+        return false;
+    }
+    if book::get(book, EXPOSURE_GIVERS, e) != giver {
+        return false;
+    }
+    if book::get(book, EXPOSURE_TAKERS, e) != taker {
+        return false;
+    }
+    if book::get(book, EXPOSURE_BASKETS, e) != basket {
+        return false;
+    }
+    book::get(book, EXPOSURE_CLOSINGS, e) == closing
+}
+
+// The row of the used exposure with this key, 64 where there is none.
+pub fn exposure_with(book: &[u8], giver: u64, taker: u64, basket: u64, closing: u64) -> usize
+    requires { ⌜ length (now book) ≡ bookLength ⌝ }
+    ensures { λ r. ⌜ r ≡ exposureWith (state (now (book .entry))) giver taker basket closing ⌝ }
+{
+    let mut e: usize = 0;
+    while e < 64 {
+        if has_key(book, giver, taker, basket, closing, e) {
+            return e;
+        }
+        e += 1;
+    }
+    e
+}
+
+// The place of an exposure's key among 1,024.
+pub fn place_of(book: &[u8], e: usize) -> usize
+    requires { ⌜ (length (now book) ≡ bookLength) × (e < 64) ⌝ }
+    ensures { λ r. ⌜ (r ≡ placeOf (state (now (book .entry))) e) × (r < 1024) ⌝ }
+{
+    sound_setup::key_place(
+        book::get(book, EXPOSURE_GIVERS, e),
+        book::get(book, EXPOSURE_TAKERS, e),
+        book::get(book, EXPOSURE_BASKETS, e),
+        book::get(book, EXPOSURE_CLOSINGS, e),
+    )
+}
+
+// Puts a used exposure at its key's place among the hints. A hint is only where to look first, so nothing is promised.
+fn put_hint(hints: &mut [u8; 1024], book: &[u8], e: usize)
+    requires { ⌜ (length (now book) ≡ bookLength) × (e < 64) ⌝ }
+{
+    if book::get(book, USEDS, e) == 1 {
+        let place = place_of(book, e);
+        hints[place] = e as u8;
+    }
+}
+
+pub fn put_hints(hints: &mut [u8; 1024], book: &[u8])
+    requires { ⌜ length (now book) ≡ bookLength ⌝ }
+{
+    let mut e: usize = 0;
+    while e < 64 {
+        put_hint(hints, book, e);
+        e += 1;
+    }
+}
+
+fn wide(x: u8) -> usize
+    ensures { λ r. ⌜ r ≡ x ⌝ }
+{
+    x as usize
+}
+
+// Is there a used exposure with this key? The hint is tried before all of them are.
+pub fn has_exposure(
+    book: &[u8],
+    hints: &[u8; 1024],
+    giver: u64,
+    taker: u64,
+    basket: u64,
+    closing: u64,
+) -> bool
+    requires { ⌜ length (now book) ≡ bookLength ⌝ }
+    ensures { λ r. ⌜ r ≡ ltb (exposureWith (state (now (book .entry))) giver taker basket closing) 64 ⌝ }
+{
+    let place = sound_setup::key_place(giver, taker, basket, closing);
+    let e = wide(hints[place]);
+    if e < 64 {
+        if has_key(book, giver, taker, basket, closing, e) {
+            return true;
+        }
+    }
+    exposure_with(book, giver, taker, basket, closing) < 64
+}
