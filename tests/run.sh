@@ -6,6 +6,10 @@ set -eu
 cd "$(dirname "$0")/.."
 
 CC=${CC:-cc}
+# Where rt keeps its files during a check: .ci/run names a folder in memory, if there is one.
+rt() {
+    TMPDIR=${RT_TMPDIR:-${TMPDIR:-/tmp}} command rt "$@"
+}
 work=$(mktemp -d)
 trap 'rm -rf "$work"' EXIT
 
