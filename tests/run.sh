@@ -26,27 +26,27 @@ step() {
     fi
 }
 
-# The engine with all below it; then the libraries, each of which `rt staticlib` proves once more on one core, and beside them the
-# program with one library in a copy, since two of rt's runs in one folder disturb each other.
+# What the engine uses; then, each on one core, the libraries, which `rt staticlib` proves once more, and the program in a copy, since
+# two of rt's runs in one folder disturb each other.
 libraries() {
-    for library in "$@"; do
+    for library in engine reads records picking calendar baskets valuation; do
         rt staticlib "$library" || return 1
     done
 }
-program_and_reads() {
-    mkdir "$work/copy" && cp -r crates crates.txt target "$work/copy" && cd "$work/copy" && rt check desk && libraries reads
+program() {
+    mkdir "$work/copy" && cp -r crates crates.txt target "$work/copy" && cd "$work/copy" && rt check desk
 }
-program_and_libraries() {
-    program_and_reads >"$work/beside" 2>&1 &
+libraries_and_program() {
+    program >"$work/beside" 2>&1 &
     beside=$!
-    libraries engine records picking calendar baskets valuation || { kill "$beside"; return 1; }
+    libraries || { kill "$beside"; return 1; }
     wait "$beside" || { cat "$work/beside"; return 1; }
     mkdir -p target/bin
     cp "$work/copy/target/bin/desk" target/bin/desk
-    cp "$work/copy/target/staticlib/libreads.a" target/staticlib/libreads.a
 }
-step "rt check engine" rt check engine
-step "rt check desk, rt staticlib of seven crates" program_and_libraries
+# shellcheck disable=SC2046
+step "rt check of what the engine uses" rt check $(sed -n 's/^engine: //p' crates.txt)
+step "rt staticlib of seven crates, rt check desk" libraries_and_program
 
 step "one library of them all" make -s build/libyordzepa.a
 step "header against the library" sh tests/header-check.sh
