@@ -8,8 +8,8 @@ use Rattle.laws.specs.Filled.{filled}
 use Rattle.book.specs.Layout.{modes, lists, partials, waitingModes, waitingLists, waitingPartials}
 use Rattle.book.specs.State.{State, put}
 use Rattle.rules.specs.DayChange.{changeTakesEffect}
-use Rattle.sound_setup.specs.Rows.{InRows}
-use Rattle.sound_setup.proofs.InRows.{in-rows}
+use Rattle.row_tests.specs.Rows.{InRows}
+use Rattle.row_tests.proofs.InRows.{in-rows}
 use Rattle.day_rows.specs.Parts.{tried, cleared}
 use Rattle.day_change.specs.Parts.{profileWaits}
 

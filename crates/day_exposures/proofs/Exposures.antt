@@ -21,8 +21,8 @@ use Rattle.facts.proofs.Truth.{split}
 use Rattle.bond_laws.proofs.Moving.{holding-giveBack, giveBack-raisable}
 use Rattle.day_laws.proofs.Each.{each-keeps}
 use Rattle.bonds.specs.Moves.{GivingBack}
-use Rattle.sound_setup.specs.Rows.{InRows}
-use Rattle.sound_setup.proofs.InRows.{in-rows}
+use Rattle.row_tests.specs.Rows.{InRows}
+use Rattle.row_tests.proofs.InRows.{in-rows}
 use Rattle.day_rows.specs.Parts.{cleared}
 use Rattle.day_rows.proofs.OnEach.{each-leaves}
 use Rattle.day_exposures.specs.Parts.{closesOn, amountClosed, Closable}

@@ -18,7 +18,7 @@ use Rattle.rules.specs.DayChange.{belongs, isIdle, exposureFreed, onEach}
 use Rattle.rules.specs.Requests.{isUsed, isFop, isPaired, hasKey}
 use Rattle.facts.proofs.Facts.{all-of}
 use Rattle.facts.proofs.Truth.{split}
-use Rattle.sound_setup.specs.Keys.{keyPlace}
+use Rattle.exposure_search.specs.Keys.{keyPlace}
 use Rattle.exposure_search.specs.Places.{placeOf}
 use Rattle.day_laws.proofs.Each.{each-keeps}
 use Rattle.day_exposures.specs.Parts.{isNotOf, Placed, Marked, MarkedFor}

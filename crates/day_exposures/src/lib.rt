@@ -121,7 +121,7 @@ fn row_place(book: &[u8], i: usize) -> usize
         }
         return exposure_search::place_of(book, object as usize);
     }
-    sound_setup::key_place(
+    exposure_search::key_place(
         book::get(book, GIVERS, i),
         book::get(book, TAKERS, i),
         object,

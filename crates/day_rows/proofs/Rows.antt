@@ -15,8 +15,8 @@ use Rattle.rules.specs.DayChange.{isDropped, blanked, onEach}
 use Rattle.rules.specs.Requests.{isUsed}
 use Rattle.facts.proofs.Facts.{Sound}
 use Rattle.facts.proofs.Rows.{Kind, fop, return, used-fields, unused-blank}
-use Rattle.sound_setup.specs.Rows.{InRows}
-use Rattle.sound_setup.proofs.InRows.{in-rows}
+use Rattle.row_tests.specs.Rows.{InRows}
+use Rattle.row_tests.proofs.InRows.{in-rows}
 use Rattle.day_laws.proofs.Each.{each-keeps}
 use Rattle.day_rows.specs.Parts.{cleared, ReturnNamed}
 

@@ -9,7 +9,7 @@ ghost use Rattle.book.specs.Layout.{bookLength};
 ghost use Rattle.book.specs.State.{state};
 ghost use Rattle.rules.specs.DayChange.{isReached, isDone, isClosed, isDropped, blanked, rowsDropped};
 ghost use Rattle.rules.specs.Sound.{sound};
-ghost use Rattle.sound_setup.specs.Rows.{InRows};
+ghost use Rattle.row_tests.specs.Rows.{InRows};
 ghost use Rattle.day_rows.specs.Parts.{tried, dropsOn, cleared, IsToday, ReturnNamed};
 use book::layout::AMOUNTS;
 use book::layout::CLOSINGS;

@@ -14,7 +14,7 @@ use Rattle.laws.proofs.Least.{least-hit, least-miss}
 use Rattle.book.specs.Layout.{useds, exposureGivers, exposureTakers, exposureBaskets, exposureClosings}
 use Rattle.book.specs.State.{State}
 use Rattle.rules.specs.Requests.{hasKey, exposureWith}
-use Rattle.sound_setup.specs.Keys.{keyPlace}
+use Rattle.exposure_search.specs.Keys.{keyPlace}
 use Rattle.exposure_search.specs.Places.{placeOf}
 
 -- a key

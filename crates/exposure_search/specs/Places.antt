@@ -3,7 +3,7 @@
 use Prim.Native.Nat.{ℕ}
 use Rattle.book.specs.Layout.{exposureGivers, exposureTakers, exposureBaskets, exposureClosings}
 use Rattle.book.specs.State.{State}
-use Rattle.sound_setup.specs.Keys.{keyPlace}
+use Rattle.exposure_search.specs.Keys.{keyPlace}
 
 -- the place of the key of the exposure e
 abbrev pub placeOf : State → ℕ → ℕ

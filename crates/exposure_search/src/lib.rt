@@ -6,6 +6,7 @@ ghost use lib.ListN.{length};
 ghost use Rattle.book.specs.Layout.{bookLength};
 ghost use Rattle.book.specs.State.{state};
 ghost use Rattle.rules.specs.Requests.{hasKey, exposureWith};
+ghost use Rattle.exposure_search.specs.Keys.{keyPlace};
 ghost use Rattle.exposure_search.specs.Places.{placeOf};
 use book::layout::EXPOSURE_BASKETS;
 use book::layout::EXPOSURE_CLOSINGS;
@@ -48,12 +49,21 @@ pub fn exposure_with(book: &[u8], giver: u64, taker: u64, basket: u64, closing: 
     e
 }
 
+// A place for the key of an exposure among 1,024: keys that share one cost time, and change no answer.
+pub fn key_place(giver: u64, taker: u64, basket: u64, closing: u64) -> usize
+    ensures { λ r. ⌜ (r ≡ keyPlace giver taker basket closing) × (r < 1024) ⌝ }
+{
+    let parties = giver % 4294967296 * 40503001 + taker % 4294967296 * 73856093;
+    let rest = basket % 4294967296 * 19349663 + closing % 4294967296 * 83492791;
+    ((parties + rest) / 1048576 % 1024) as usize
+}
+
 // The place of an exposure's key among 1,024.
 pub fn place_of(book: &[u8], e: usize) -> usize
     requires { ⌜ (length (now book) ≡ bookLength) × (e < 64) ⌝ }
     ensures { λ r. ⌜ (r ≡ placeOf (state (now (book .entry))) e) × (r < 1024) ⌝ }
 {
-    sound_setup::key_place(
+    key_place(
         book::get(book, EXPOSURE_GIVERS, e),
         book::get(book, EXPOSURE_TAKERS, e),
         book::get(book, EXPOSURE_BASKETS, e),
@@ -99,7 +109,7 @@ pub fn has_exposure(
     requires { ⌜ length (now book) ≡ bookLength ⌝ }
     ensures { λ r. ⌜ r ≡ ltb (exposureWith (state (now (book .entry))) giver taker basket closing) 64 ⌝ }
 {
-    let place = sound_setup::key_place(giver, taker, basket, closing);
+    let place = key_place(giver, taker, basket, closing);
     let e = wide(hints[place]);
     if e < 64 {
         if has_key(book, giver, taker, basket, closing, e) {

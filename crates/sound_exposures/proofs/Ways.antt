@@ -14,8 +14,8 @@ use Rattle.book.specs.Layout.{useds, exposureGivers, exposureTakers, exposureBa
 use Rattle.book.specs.State.{State}
 use Rattle.rules.specs.Sound.{openOrNone, soundParties, basketNamed, alike, blank, soundExposure, otherKey, distinctKey}
 use Rattle.facts.proofs.Rows.{used-exposure, no-exposure, used-or-not}
-use Rattle.sound_setup.specs.Rows.{InRows}
-use Rattle.sound_setup.proofs.InRows.{in-rows}
+use Rattle.row_tests.specs.Rows.{InRows}
+use Rattle.row_tests.proofs.InRows.{in-rows}
 
 -- the five tables of an exposure from the givers on have 64 rows
 pub in-exposures : (n e : ℕ) → n ≤ 5 → e < 64 → InRows n exposureGivers e

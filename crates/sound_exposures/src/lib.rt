@@ -7,7 +7,7 @@ ghost use Rattle.laws.specs.Search.{all};
 ghost use Rattle.book.specs.Layout.{bookLength};
 ghost use Rattle.book.specs.State.{state};
 ghost use Rattle.rules.specs.Sound.{soundExposure, otherKey, distinctKey};
-ghost use Rattle.sound_setup.specs.Days.{OpenDays};
+ghost use Rattle.open_days.specs.Days.{OpenDays};
 ghost use Rattle.sound_exposures.specs.Keys.{KeysMarked};
 use book::layout::EXPOSURE_BASKETS;
 use book::layout::EXPOSURE_CLOSINGS;
@@ -22,7 +22,7 @@ fn is_sound_exposure(book: &[u8], e: usize, days: &[u64; 16]) -> bool
 {
     let used = book::get(book, USEDS, e);
     if used == 0 {
-        return sound_setup::is_blank(book, 5, EXPOSURE_GIVERS, e);
+        return row_tests::is_blank(book, 5, EXPOSURE_GIVERS, e);
     }
     if used != 1 {
         return false;
@@ -37,7 +37,7 @@ fn is_sound_exposure(book: &[u8], e: usize, days: &[u64; 16]) -> bool
     if !sound_setup::is_basket_named(book, book::get(book, EXPOSURE_BASKETS, e)) {
         return false;
     }
-    if !sound_setup::is_open_or_none(days, book::get(book, EXPOSURE_CLOSINGS, e)) {
+    if !open_days::is_open_or_none(days, book::get(book, EXPOSURE_CLOSINGS, e)) {
         return false;
     }
     book::get(book, EXPOSURES, e) <= 10000000000000
@@ -48,7 +48,7 @@ fn note_closing(days: &mut [u64; 16], book: &[u8], e: usize)
     requires { ⌜ (length (now book) ≡ bookLength) × (e < 64) × OpenDays (now days) × (soundExposure (state (now book)) e ≡ true) ⌝ }
     ensures { λ _. ⌜ OpenDays (now (days .exit)) ⌝ }
 {
-    sound_setup::note_open_or_none(days, book::get(book, EXPOSURE_CLOSINGS, e));
+    open_days::note_open_or_none(days, book::get(book, EXPOSURE_CLOSINGS, e));
 }
 
 pub fn are_sound_exposures(book: &[u8]) -> bool
@@ -75,7 +75,7 @@ fn has_other_key(book: &[u8], e: usize, d: usize) -> bool
     if book::get(book, USEDS, d) != 1 {
         return true;
     }
-    !sound_setup::are_alike(book, 4, EXPOSURE_GIVERS, e, d)
+    !row_tests::are_alike(book, 4, EXPOSURE_GIVERS, e, d)
 }
 
 fn is_distinct_key(book: &[u8], e: usize) -> bool

@@ -5,7 +5,7 @@ ghost use lib.ListN.{length};
 ghost use Rattle.book.specs.Layout.{bookLength};
 ghost use Rattle.book.specs.State.{state};
 ghost use Rattle.rules.specs.Sound.{returnNames, soundFop, soundReturn, soundKind, soundFields};
-ghost use Rattle.sound_setup.specs.Days.{OpenDays};
+ghost use Rattle.open_days.specs.Days.{OpenDays};
 ghost use Rattle.sound_fields.specs.Rows.{Reads, marksOf};
 use book::layout::AMOUNTS;
 use book::layout::CANCELS;
@@ -99,7 +99,7 @@ fn is_sound_fop(book: &[u8], q: Request, days: &[u64; 16]) -> bool
     if !sound_setup::is_between(least, 1000000000000, q.amount) {
         return false;
     }
-    sound_setup::is_open_or_none(days, q.closing)
+    open_days::is_open_or_none(days, q.closing)
 }
 
 fn is_sound_return(book: &[u8], q: Request) -> bool
@@ -162,7 +162,7 @@ pub fn are_sound_fields(book: &[u8], q: Request, days: &[u64; 16]) -> bool
     if !is_sound_kind(book, q, days) {
         return false;
     }
-    if !sound_setup::is_known_open(days, q.settlement) {
+    if !open_days::is_known_open(days, q.settlement) {
         return false;
     }
     are_sound_marks(q)

@@ -13,7 +13,7 @@ use Rattle.book.specs.Layout.{givers, takers, objects, amounts, settlements, cl
 use Rattle.book.specs.State.{State}
 use Rattle.rules.specs.Sound.{same, alike, blank}
 use Rattle.facts.proofs.Facts.{all-of}
-use Rattle.sound_setup.proofs.Empty.{agree, or-left, or-right}
+use Rattle.row_tests.proofs.Empty.{agree, or-left, or-right}
 use Rattle.sound_fields.specs.Rows.{Reads}
 use Rattle.sound_fields.specs.declared.Request as declared
 

@@ -17,10 +17,10 @@ use Rattle.rules.specs.Requests.{isUsed}
 use Rattle.rules.specs.Sound.{soundRow}
 use Rattle.facts.proofs.Facts.{all-of, below}
 use Rattle.facts.proofs.Rows.{unused-blank, blank-sound}
-use Rattle.sound_setup.specs.Bytes.{emptyRows}
-use Rattle.sound_setup.specs.Rows.{InRows}
-use Rattle.sound_setup.proofs.Empty.{agree}
-use Rattle.sound_setup.proofs.InRows.{in-rows}
+use Rattle.row_tests.specs.Bytes.{emptyRows}
+use Rattle.row_tests.specs.Rows.{InRows}
+use Rattle.row_tests.proofs.Empty.{agree}
+use Rattle.row_tests.proofs.InRows.{in-rows}
 use Rattle.sound_requests.specs.Rows.{emptyTables}
 
 -- the fourteen tables from the kinds on have 256 rows

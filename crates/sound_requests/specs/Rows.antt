@@ -7,7 +7,7 @@ use Rattle.laws.specs.Search.{all}
 use Rattle.book.specs.Layout.{numbers, partners}
 use Rattle.book.specs.State.{State}
 use Rattle.rules.specs.Sound.{soundRow}
-use Rattle.sound_setup.specs.Bytes.{emptyRows}
+use Rattle.row_tests.specs.Bytes.{emptyRows}
 
 -- the rows before i are sound
 pub record Passed (s : State) (i : ℕ) : Type 0 where

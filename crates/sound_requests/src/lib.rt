@@ -7,8 +7,8 @@ ghost use Rattle.laws.specs.Search.{all};
 ghost use Rattle.book.specs.Layout.{bookLength, numbers, kinds};
 ghost use Rattle.book.specs.State.{state};
 ghost use Rattle.rules.specs.Sound.{blank, soundRow};
-ghost use Rattle.sound_setup.specs.Days.{OpenDays};
-ghost use Rattle.sound_setup.specs.Rows.{InRows};
+ghost use Rattle.open_days.specs.Days.{OpenDays};
+ghost use Rattle.row_tests.specs.Rows.{InRows};
 ghost use Rattle.sound_requests.specs.Rows.{Later, Passed, emptyTables};
 use book::layout::CANCELS;
 use book::layout::CLOSINGS;
@@ -49,10 +49,10 @@ fn is_blank_row(book: &[u8], i: usize) -> bool
     requires { ⌜ (length (now book) ≡ bookLength) × (i < 256) ⌝ }
     ensures { λ r. ⌜ r ≡ blank (state (now (book .entry))) 14 kinds i ⌝ }
 {
-    if !sound_setup::is_blank(book, 6, KINDS, i) {
+    if !row_tests::is_blank(book, 6, KINDS, i) {
         return false;
     }
-    sound_setup::is_blank(book, 8, SETTLEMENTS, i)
+    row_tests::is_blank(book, 8, SETTLEMENTS, i)
 }
 
 // Do sixteen rows hold nothing, in n tables from one on?
@@ -62,7 +62,7 @@ fn are_tables_empty(book: &[u8], n: usize, from: usize, k: usize) -> bool
 {
     let mut f = from;
     while f < from + n {
-        if !sound_setup::are_rows_empty(book, f, 16 * k, 16) {
+        if !row_tests::are_rows_empty(book, f, 16 * k, 16) {
             return false;
         }
         f += 1;
@@ -105,8 +105,8 @@ fn note_days(days: &mut [u64; 16], book: &[u8], i: usize)
 {
     let settlement = book::get(book, SETTLEMENTS, i);
     let closing = book::get(book, CLOSINGS, i);
-    sound_setup::note_open_or_none(days, settlement);
-    sound_setup::note_open_or_none(days, closing);
+    open_days::note_open_or_none(days, settlement);
+    open_days::note_open_or_none(days, closing);
 }
 
 // Sixteen rows, one after the other: those before are sound.
@@ -131,7 +131,7 @@ fn are_sixteen_sound(book: &[u8], hints: &[u8; 1024], days: &mut [u64; 16], k: u
     requires { ⌜ (length (now book) ≡ bookLength) × (k < 16) × OpenDays (now days) × Passed (state (now book)) (16 * k) ⌝ }
     ensures { λ r. ⌜ (r ≡ all (soundRow (state (now (book .entry)))) 16 (16 * k)) × OpenDays (now (days .exit)) ⌝ }
 {
-    if sound_setup::are_rows_empty(book, NUMBERS, 16 * k, 16) {
+    if row_tests::are_rows_empty(book, NUMBERS, 16 * k, 16) {
         return are_sixteen_blank(book, k);
     }
     are_each_sound(book, hints, days, k)

@@ -1,4 +1,1 @@
-pub mod Days
-pub mod Empty
-pub mod InRows
 pub mod Ways

@@ -2,16 +2,19 @@
 -- Assumes nothing.
 use mathlib.Core.Path.{_≡_, sym, _∙_}
 use mathlib.Core.Bool.{Bool, true, false, not, and-false}
-use Prim.Native.Nat.{ℕ, _+_, _-_, _≤_, _<_}
+use mathlib.Core.List.{[], _∷_}
+use Prim.Native.Nat.{ℕ, _+_, _≤_, _<_}
+use native.Mathlib.Nat.{zero-add}
 use lib.Dec.{eqb, leb}
 use borrow.Author.Tests.{eq-eqb, ne-eqb, le-leb, lt-leb, le-ltb, lt-ltb, not-true, not-false}
-use Rattle.book.specs.Layout.{today, tolerance, nextNumber, lots, prices, haircuts, quotes, modes, lists, partials, waitingModes, waitingLists, waitingPartials, maps, ages}
+use Rattle.book.specs.Layout.{today, tolerance, nextNumber, lots, prices, haircuts, quotes, modes, lists, partials, waitingModes, waitingLists, waitingPartials, maps, ages, spares}
 use Rattle.book.specs.State.{State}
 use Rattle.laws.specs.Search.{all}
-use Rattle.laws.proofs.Least.{Rest}
-use native.Mathlib.Omega.{arith}
+use Rattle.laws.proofs.Least.{all-same}
 use Rattle.calendar.specs.Target.{openDay}
-use Rattle.rules.specs.Sound.{between, openOrNone, soundHead, soundSecurity, soundProfile, soundParticipant, soundBasket, soundParties, basketNamed, same}
+use Rattle.rules.specs.Sound.{between, soundHead, soundSecurity, soundProfile, soundParticipant, soundBasket, soundParties, basketNamed, isSpare}
+use Rattle.facts.proofs.Truth.{split}
+use Rattle.row_tests.specs.Bytes.{emptyRows}
 
 -- a number that was read, as the number in the book
 read-zero : {x : ℕ} (y : ℕ) → x ≡ y → x ≡ 0 → eqb y 0 ≡ true
@@ -31,14 +34,6 @@ module _ (low high x : ℕ) where
 
   pub by-high : low ≤ x → leb x high ≡ between low high x
   by-high h = rw (le-leb low x h)
-
--- a closing day
-module _ (d : ℕ) where
-  pub no-day : d ≡ 0 → true ≡ openOrNone d
-  no-day e = rw (eq-eqb d 0 e)
-
-  pub by-day : {b : Bool} → (d ≡ 0 → ⊥) → b ≡ openDay d → b ≡ openOrNone d
-  by-day n e = rw (ne-eqb d 0 n) e
 
 -- a giver and a taker
 module _ (s : State) (giver taker : ℕ) where
@@ -83,13 +78,6 @@ module _ (s : State) {x : ℕ} {a : Bool} (e : x ≡ s today 0) (d : a ≡ openD
 
     pub by-number : {z : ℕ} {r : Bool} → not b ≡ false → z ≡ s nextNumber 0 → r ≡ between 1 1000000000 z → r ≡ soundHead s
     by-number h i q = rw (← e, ← f, ← i, sym d ∙ not-false a g, sym t ∙ not-false b h) q
-
--- one number of a table, and two
-pub by-one : {x y : ℕ} → x ≡ y → eqb x 0 ≡ eqb y 0
-by-one e = rw e
-
-pub by-two : (s : State) (f i j : ℕ) {x y : ℕ} → x ≡ s f i → y ≡ s f j → eqb x y ≡ same s f i j
-by-two s f i j e g = rw (e, g)
 
 -- a profile
 module _ (mode list partial : ℕ) where
@@ -165,6 +153,13 @@ module _ (s : State) (i : ℕ) {l : ℕ} (el : l ≡ s lots i) where
   by-quote {x} {y} {q} {b} n h e d f g k j o =
       rw (read-other (s lots i) el n, ← el, ← e, ← g, ← j, le-leb l 1000000 h, sym d ∙ not-false b f, le-leb y 9999 k) o
 
--- a loop over n numbers from one on starts
-pub loop-starts : {t : ℕ → Bool} (n from : ℕ) → Rest t (from + n) from (all t n from)
-loop-starts {t} n from = let e : from + n - from ≡ n = omega arith in record { decides = rw e }
+-- the quote day of a sound security
+pub quote-open : (s : State) (i : ℕ) {l q : ℕ} → soundSecurity s i ≡ true → l ≡ s lots i → (l ≡ 0 → ⊥) → q ≡ s quotes i → openDay q ≡ true
+quote-open s i {l} {q} h e n f =
+    let set : eqb (s lots i) 0 ≡ false = ne-eqb (s lots i) 0 (λ z. n (e ∙ z)) in
+    let t = split (leb (s lots i) 1000000 ∷ between 1 3000000 (s prices i) ∷ leb (s haircuts i) 9999 ∷ openDay (s quotes i) ∷ []) (rw set at h) in
+    rw f (t .1 .1 .1)
+
+-- the spare rows are the book's last bytes
+pub by-spares : (s : State) {r : Bool} → r ≡ emptyRows s spares 0 589 → r ≡ all (isSpare s) 589 0
+by-spares s e = e ∙ all-same (λ i. eqb (s spares (0 + i)) 0) (isSpare s) 589 0 (λ j a l. rw zero-add)

@@ -1,19 +1,13 @@
 // Document 01's soundness sentence, of what is set up: the book's head, securities, participants, baskets, spare rows.
 ghost use mathlib.Core.Bool.{true};
 ghost use mathlib.Core.Path.{_≡_};
-ghost use Prim.Native.Nat.{_<_, _≤_, _+_};
+ghost use Prim.Native.Nat.{_<_};
 ghost use lib.ListN.{length};
-ghost use lib.Dec.{eqb};
 ghost use Rattle.laws.specs.Search.{all};
-ghost use Rattle.book.specs.Layout.{bookLength, tableCount, rowsOf};
+ghost use Rattle.book.specs.Layout.{bookLength};
 ghost use Rattle.book.specs.State.{state};
-ghost use Rattle.calendar.specs.Target.{openDay};
-ghost use Rattle.rules.specs.Sound.{between, openOrNone, soundHead, soundSecurity, soundProfile, soundParticipant, soundBasket, soundParties, basketNamed, same, alike, blank, isSpare};
-ghost use Rattle.sound_setup.specs.Bytes.{emptyBytes, emptyRows};
-ghost use Rattle.sound_setup.specs.Days.{OpenDays};
-ghost use Rattle.sound_setup.specs.Keys.{keyPlace};
-ghost use Rattle.sound_setup.specs.Rows.{InRows};
-use book::layout;
+ghost use Rattle.rules.specs.Sound.{between, soundHead, soundSecurity, soundProfile, soundParticipant, soundBasket, soundParties, basketNamed, isSpare};
+ghost use Rattle.open_days.specs.Days.{OpenDays};
 use book::layout::AGES;
 use book::layout::HAIRCUTS;
 use book::layout::LISTS;
@@ -39,134 +33,6 @@ pub fn is_between(low: u64, high: u64, x: u64) -> bool
         return false;
     }
     x <= high
-}
-
-// A place for a day among 16. A remainder by 16 would do as well, but makes the compiler load the day's last byte by itself.
-fn day_place(day: u64) -> usize
-    ensures { λ r. ⌜ r < 16 ⌝ }
-{
-    (day % 4294967296 * 2654435761 / 268435456 % 16) as usize
-}
-
-// Is a day open? Some open days are at hand, each at its place: most days of a book are one of a few.
-pub fn is_known_open(days: &[u64; 16], day: u64) -> bool
-    requires { ⌜ OpenDays (now days) ⌝ }
-    ensures { λ r. ⌜ r ≡ openDay day ⌝ }
-{
-    let place = day_place(day);
-    if days[place] == day {
-        return true;
-    }
-    calendar::is_open(day)
-}
-
-// Puts an open day among those at hand.
-pub fn note_open(days: &mut [u64; 16], day: u64)
-    requires { ⌜ OpenDays (now days) × (openDay day ≡ true) ⌝ }
-    ensures { λ _. ⌜ OpenDays (now (days .exit)) ⌝ }
-{
-    let place = day_place(day);
-    days[place] = day;
-}
-
-// Is a closing day open, or none?
-pub fn is_open_or_none(days: &[u64; 16], day: u64) -> bool
-    requires { ⌜ OpenDays (now days) ⌝ }
-    ensures { λ r. ⌜ r ≡ openOrNone day ⌝ }
-{
-    if day == 0 {
-        return true;
-    }
-    is_known_open(days, day)
-}
-
-// Puts a sound closing day among those at hand, where there is one.
-pub fn note_open_or_none(days: &mut [u64; 16], day: u64)
-    requires { ⌜ OpenDays (now days) × (openOrNone day ≡ true) ⌝ }
-    ensures { λ _. ⌜ OpenDays (now (days .exit)) ⌝ }
-{
-    if day != 0 {
-        note_open(days, day);
-    }
-}
-
-// Are all of some bytes 0? There is no way out on the way, so that the compiler takes sixteen bytes at a time.
-pub fn are_empty(bytes: &[u8]) -> bool
-    ensures { λ r. ⌜ r ≡ emptyBytes (now (bytes .entry)) ⌝ }
-{
-    let mut seen: u8 = 0;
-    let mut k: usize = 0;
-    while k < bytes.len() {
-        seen = seen | bytes[k];
-        k += 1;
-    }
-    seen == 0
-}
-
-// Do rows of a table hold nothing? They are bytes in a row.
-pub fn are_rows_empty(book: &[u8], f: usize, start: usize, n: usize) -> bool
-    requires { ⌜ (length (now book) ≡ bookLength) × (f < tableCount) × (0 < n) × (start + n ≤ rowsOf f) ⌝ }
-    ensures { λ r. ⌜ r ≡ emptyRows (state (now (book .entry))) f start n ⌝ }
-{
-    let width = layout::width_of(f);
-    let from = layout::base_of(f) + width * start;
-    let to = from + width * n;
-    are_empty(&book[from..to])
-}
-
-// A place for the key of an exposure among 1,024: keys that share one cost time, and change no answer.
-pub fn key_place(giver: u64, taker: u64, basket: u64, closing: u64) -> usize
-    ensures { λ r. ⌜ (r ≡ keyPlace giver taker basket closing) × (r < 1024) ⌝ }
-{
-    let parties = giver % 4294967296 * 40503001 + taker % 4294967296 * 73856093;
-    let rest = basket % 4294967296 * 19349663 + closing % 4294967296 * 83492791;
-    ((parties + rest) / 1048576 % 1024) as usize
-}
-
-// Do two rows of a table hold the same?
-fn is_same(book: &[u8], f: usize, i: usize, j: usize) -> bool
-    requires { ⌜ (length (now book) ≡ bookLength) × (f < tableCount) × (i < rowsOf f) × (j < rowsOf f) ⌝ }
-    ensures { λ r. ⌜ r ≡ same (state (now (book .entry))) f i j ⌝ }
-{
-    book::get(book, f, i) == book::get(book, f, j)
-}
-
-// Does a row of a table hold nothing?
-fn is_zero(book: &[u8], f: usize, i: usize) -> bool
-    requires { ⌜ (length (now book) ≡ bookLength) × (f < tableCount) × (i < rowsOf f) ⌝ }
-    ensures { λ r. ⌜ r ≡ eqb (state (now (book .entry)) f i) 0 ⌝ }
-{
-    book::get(book, f, i) == 0
-}
-
-// Do two rows hold the same in each of n tables from one on?
-pub fn are_alike(book: &[u8], n: usize, from: usize, i: usize, j: usize) -> bool
-    requires { ⌜ (length (now book) ≡ bookLength) × InRows n from i × InRows n from j ⌝ }
-    ensures { λ r. ⌜ r ≡ alike (state (now (book .entry))) n from i j ⌝ }
-{
-    let mut f = from;
-    while f < from + n {
-        if !is_same(book, f, i, j) {
-            return false;
-        }
-        f += 1;
-    }
-    true
-}
-
-// Does a row hold nothing in any of n tables from one on?
-pub fn is_blank(book: &[u8], n: usize, from: usize, i: usize) -> bool
-    requires { ⌜ (length (now book) ≡ bookLength) × InRows n from i ⌝ }
-    ensures { λ r. ⌜ r ≡ blank (state (now (book .entry))) n from i ⌝ }
-{
-    let mut f = from;
-    while f < from + n {
-        if !is_zero(book, f, i) {
-            return false;
-        }
-        f += 1;
-    }
-    true
 }
 
 // The head: an open today, a tolerance and a next number in their ranges.
@@ -209,7 +75,7 @@ fn is_sound_security(book: &[u8], i: usize, days: &[u64; 16]) -> bool
     if 9999 < haircut {
         return false;
     }
-    is_known_open(days, quote)
+    open_days::is_known_open(days, quote)
 }
 
 // Puts the quote day of a sound security among those at hand.
@@ -219,7 +85,7 @@ fn note_quote(days: &mut [u64; 16], book: &[u8], i: usize)
 {
     let quote = book::get(book, QUOTES, i);
     if book::get(book, LOTS, i) != 0 {
-        note_open(days, quote);
+        open_days::note_open(days, quote);
     }
 }
 
@@ -324,7 +190,7 @@ pub fn are_sound_spares(book: &[u8]) -> bool
     requires { ⌜ length (now book) ≡ bookLength ⌝ }
     ensures { λ r. ⌜ r ≡ all (isSpare (state (now (book .entry)))) 589 0 ⌝ }
 {
-    are_rows_empty(book, SPARES, 0, 589)
+    row_tests::are_rows_empty(book, SPARES, 0, 589)
 }
 
 // Are a giver and a taker set up, and not the same?

@@ -21,7 +21,7 @@ use Rattle.book.specs.State.{State, Fits}
 use Rattle.rules.specs.Sound.{positionFrom, holding, soundExposure, soundPosition, soundPositions, soundHolding, soundHoldings}
 use Rattle.facts.proofs.Facts.{all-of, below}
 use Rattle.facts.proofs.Rows.{used-exposure, no-exposure, used-or-not}
-use Rattle.sound_setup.specs.Bytes.{emptyRows}
+use Rattle.row_tests.specs.Bytes.{emptyRows}
 use Rattle.sound_stocks.specs.Stocks.{smallAccount, smallAccounts, inLots, soundStocks, Stocking, Held, Adding, Judged}
 
 -- whole lots

@@ -27,7 +27,7 @@ fn are_small_accounts_of(book: &[u8], p: usize) -> bool
     requires { ⌜ (length (now book) ≡ bookLength) × (p < 32) ⌝ }
     ensures { λ r. ⌜ r ≡ smallAccounts (state (now (book .entry))) p ⌝ }
 {
-    if sound_setup::are_rows_empty(book, ACCOUNTS, 64 * p, 64) {
+    if row_tests::are_rows_empty(book, ACCOUNTS, 64 * p, 64) {
         return true;
     }
     let mut i: usize = 0;
@@ -99,7 +99,7 @@ fn are_four_sound(held: &mut [u32; 2048], book: &[u8], p: usize, e: usize, k: us
     requires { ⌜ (length (now book) ≡ bookLength) × (k < 16) × Adding (state (now book)) p e (4 * k) (now held) ⌝ }
     ensures { λ r. ⌜ Judged (state (now (book .entry))) r (Adding (state (now (book .entry))) p e (4 * (k + 1)) (now (held .exit))) ⌝ }
 {
-    if sound_setup::are_rows_empty(book, POSITIONS, 64 * e + 4 * k, 4) {
+    if row_tests::are_rows_empty(book, POSITIONS, 64 * e + 4 * k, 4) {
         return true;
     }
     let end = 4 * k + 4;
@@ -134,7 +134,7 @@ fn is_sound_stock(held: &mut [u32; 2048], book: &[u8], e: usize) -> bool
 {
     let amount = book::get(book, EXPOSURES, e);
     if amount == 0 {
-        return sound_setup::are_rows_empty(book, POSITIONS, 64 * e, 64);
+        return row_tests::are_rows_empty(book, POSITIONS, 64 * e, 64);
     }
     let giver = book::get(book, EXPOSURE_GIVERS, e);
     are_sound_nominals(held, book, giver as usize, e)

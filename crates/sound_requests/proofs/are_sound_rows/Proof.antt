@@ -7,8 +7,8 @@ use Rattle.laws.specs.Search.{all}
 use Rattle.laws.proofs.Least.{Rest}
 use Rattle.book.specs.State.{state}
 use Rattle.rules.specs.Sound.{soundRow}
-use Rattle.sound_setup.specs.Days.{OpenDays}
-use Rattle.sound_setup.proofs.Days.{days-start}
+use Rattle.open_days.specs.Days.{OpenDays}
+use Rattle.open_days.proofs.Days.{days-start}
 use Rattle.sound_requests.specs.Rows.{Passed}
 use Rattle.sound_requests.proofs.Blocks.{sixteen-fail, sixteen-pass, sixteens-end}
 use Rattle.sound_requests.proofs.Later.{passed-none, passed-sixteen}

@@ -1,12 +1,12 @@
--- `sound_setup::are_empty` meets its contract: the bytes below `k` are seen.
+-- `row_tests::are_empty` meets its contract: the bytes below `k` are seen.
 -- Assumes nothing.
 use Prim.Native.Nat.{_-_, _≤_}
 use native.Mathlib.Omega.{arith}
 use lib.ListN.{length}
-use Rattle.sound_setup.proofs.Empty.{Seen, seen-starts, seen-next, seen-ends}
+use Rattle.row_tests.proofs.Empty.{Seen, seen-starts, seen-next, seen-ends}
 use borrow.Author.Needs.{needs}
-use Rattle.sound_setup.proofs.are_empty.Statement.{statement}
-use Rattle.sound_setup.proofs.are_empty.Tie as tie
+use Rattle.row_tests.proofs.are_empty.Statement.{statement}
+use Rattle.row_tests.proofs.are_empty.Tie as tie
 
 abbrev Inv-loop : tie.InvT-loop
 Inv-loop bytes seen₀ k₀ seen k = (k ≤ length bytes) × Seen bytes k seen

@@ -1,21 +1,20 @@
--- `sound_setup::is_blank` meets its contract: the tables below `f` passed.
+-- `row_tests::are_alike` meets its contract: the tables below `f` passed.
 -- Assumes nothing.
 use Prim.Native.Nat.{_+_, _-_, _≤_}
 use native.Mathlib.Omega.{arith}
 use Rattle.laws.proofs.Least.{Rest, loop-fails, loop-passes, loop-ends}
-use lib.Dec.{eqb}
 use Rattle.book.specs.State.{state}
-use Rattle.rules.specs.Sound.{blank}
-use Rattle.sound_setup.proofs.Ways.{loop-starts}
+use Rattle.rules.specs.Sound.{same, alike}
+use Rattle.row_tests.proofs.Ways.{loop-starts}
 use borrow.Author.Needs.{needs}
-use Rattle.sound_setup.proofs.is_blank.Statement.{statement}
-use Rattle.sound_setup.proofs.is_blank.Tie as tie
+use Rattle.row_tests.proofs.are_alike.Statement.{statement}
+use Rattle.row_tests.proofs.are_alike.Tie as tie
 
 abbrev Inv-loop : tie.InvT-loop
-Inv-loop book n from i f₀ f = (from ≤ f) × (f ≤ from + n) × Rest (λ g. eqb (state book g i) 0) (from + n) f (blank (state book) n from i)
+Inv-loop book n from i j f₀ f = (from ≤ f) × (f ≤ from + n) × Rest (λ g. same (state book) g i j) (from + n) f (alike (state book) n from i j)
 
 abbrev μ-loop : tie.MeasureT-loop
-μ-loop book n from i f₀ f = from + n - f
+μ-loop book n from i j f₀ f = from + n - f
 
 loop-holds : tie.Need-loop-holds Inv-loop μ-loop
 loop-holds c = (omega arith, omega arith, search loop-starts)
@@ -23,11 +22,11 @@ loop-holds c = (omega arith, omega arith, search loop-starts)
 add-loop : tie.Need-add-loop Inv-loop μ-loop
 add-loop c = omega (arith, c .before .before .pre .1 .tables)
 
-is-zero-requires : tie.Need-is-zero-requires Inv-loop μ-loop
-is-zero-requires c κs =
+is-same-requires : tie.Need-is-same-requires Inv-loop μ-loop
+is-same-requires c κs =
     let s = c .before .before .before in
     let f = c .before .loop .f in
-    (s .pre .0, omega (arith, s .pre .1 .tables), s .pre .1 .row f (omega arith) (omega arith))
+    (s .pre .0, omega (arith, s .pre .1 .tables), s .pre .1 .row f (omega arith) (omega arith), s .pre .2 .row f (omega arith) (omega arith))
 
 returns : tie.Need-returns Inv-loop μ-loop
 returns c = search loop-fails
@@ -44,15 +43,15 @@ loop-again c = (omega arith, omega arith, search loop-passes)
 returns-2 : tie.Need-returns-2 Inv-loop μ-loop
 returns-2 c = search loop-ends
 
-pub is-blank-spec : {M : Type 1} → statement M
-is-blank-spec =
+pub are-alike-spec : {M : Type 1} → statement M
+are-alike-spec =
     tie.close
     (tie.spec
     Inv-loop
     μ-loop
     loop-holds
     add-loop
-    is-zero-requires
+    is-same-requires
     returns
     add-f
     loop-less

@@ -1,9 +1,9 @@
--- `sound_setup::is_zero` meets its contract.
+-- `row_tests::is_zero` meets its contract.
 -- Assumes nothing.
-use Rattle.sound_setup.proofs.Ways.{by-one}
+use Rattle.row_tests.proofs.Ways.{by-one}
 use borrow.Author.Needs.{needs}
-use Rattle.sound_setup.proofs.is_zero.Statement.{statement}
-use Rattle.sound_setup.proofs.is_zero.Tie as tie
+use Rattle.row_tests.proofs.is_zero.Statement.{statement}
+use Rattle.row_tests.proofs.is_zero.Tie as tie
 
 get-requires : tie.Need-get-requires
 get-requires c κs = search needs

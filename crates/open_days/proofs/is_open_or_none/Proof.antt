@@ -1,9 +1,9 @@
--- `sound_setup::is_open_or_none` meets its contract.
+-- `open_days::is_open_or_none` meets its contract.
 -- Assumes nothing.
-use Rattle.sound_setup.proofs.Ways.{no-day, by-day}
+use Rattle.open_days.proofs.Days.{no-day, by-day}
 use borrow.Author.Needs.{needs}
-use Rattle.sound_setup.proofs.is_open_or_none.Statement.{statement}
-use Rattle.sound_setup.proofs.is_open_or_none.Tie as tie
+use Rattle.open_days.proofs.is_open_or_none.Statement.{statement}
+use Rattle.open_days.proofs.is_open_or_none.Tie as tie
 
 returns : tie.Need-returns
 returns c = search no-day

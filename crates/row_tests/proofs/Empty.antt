@@ -5,7 +5,7 @@ use mathlib.Core.Bool.{Bool, true}
 use mathlib.Core.List.{List}
 use mathlib.Core.Logic.{⊎-elim}
 use Prim.Native.Nat.{ℕ, zero, suc, _+_, _*_, _-_, _/_, _%_, _≤_, _<_}
-use native.Mathlib.Nat.{div-add-mod, div-lt-iff-lt-mul, mod-lt, mul-add, mul-comm, mul-le-mul-left, zero-add}
+use native.Mathlib.Nat.{div-add-mod, div-lt-iff-lt-mul, mod-lt, mul-add, mul-comm, mul-le-mul-left}
 use native.Mathlib.Decide.{ℕ-discrete}
 use native.Mathlib.Omega.{arith}
 use lib.Bits.{bitOr, or-add-and, and-le-l, and-le-r, or-zero-l}
@@ -16,14 +16,13 @@ use borrow.Author.Tests.{eq-eqb, eqb-true}
 use Rattle.laws.specs.Numbers.{numberAt}
 use Rattle.laws.specs.Search.{all}
 use Rattle.laws.proofs.Cases.{either, clash}
-use Rattle.laws.proofs.Least.{all-at, all-same}
-use Rattle.book.specs.Layout.{bookLength, tableCount, rowsOf, widthOf, baseOf, spares}
-use Rattle.book.specs.State.{State, state}
+use Rattle.laws.proofs.Least.{all-at}
+use Rattle.book.specs.Layout.{bookLength, tableCount, rowsOf, widthOf, baseOf}
+use Rattle.book.specs.State.{state}
 use Rattle.book.proofs.Cells.{state-at}
 use Rattle.book.proofs.Places.{rows-apart, tables-inside, width-eight}
-use Rattle.rules.specs.Sound.{isSpare}
 use Rattle.facts.proofs.Facts.{all-of}
-use Rattle.sound_setup.specs.Bytes.{emptyByte, emptyBytes, emptyRows}
+use Rattle.row_tests.specs.Bytes.{emptyByte, emptyBytes, emptyRows}
 
 -- two tests of which each implies the other
 pub agree : {a b : Bool} → (a ≡ true → b ≡ true) → (b ≡ true → a ≡ true) → a ≡ b
@@ -149,7 +148,3 @@ module _ (b : List ℕ) (f start n : ℕ) {at w : ℕ} (long : length b ≡ book
 
   pub rows-empty : {r : Bool} → r ≡ emptyBytes (take (from + w * n - from) (drop from b)) → r ≡ emptyRows (state b) f start n
   rows-empty q = let long : from + w * n - from ≡ w * n = omega arith in (rw long at q) ∙ part-rows
-
--- the spare rows are the book's last bytes
-pub by-spares : (s : State) {r : Bool} → r ≡ emptyRows s spares 0 589 → r ≡ all (isSpare s) 589 0
-by-spares s e = e ∙ all-same (λ i. eqb (s spares (0 + i)) 0) (isSpare s) 589 0 (λ j a l. rw zero-add)

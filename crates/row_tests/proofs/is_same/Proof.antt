@@ -1,9 +1,9 @@
--- `sound_setup::is_same` meets its contract.
+-- `row_tests::is_same` meets its contract.
 -- Assumes nothing.
-use Rattle.sound_setup.proofs.Ways.{by-two}
+use Rattle.row_tests.proofs.Ways.{by-two}
 use borrow.Author.Needs.{needs}
-use Rattle.sound_setup.proofs.is_same.Statement.{statement}
-use Rattle.sound_setup.proofs.is_same.Tie as tie
+use Rattle.row_tests.proofs.is_same.Statement.{statement}
+use Rattle.row_tests.proofs.is_same.Tie as tie
 
 get-requires : tie.Need-get-requires
 get-requires c κs = search needs

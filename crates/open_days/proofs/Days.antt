@@ -1,24 +1,20 @@
--- Open days at hand: the first ones, and one more.
+-- Open days at hand: the first ones, and one more; a closing day.
 -- Assumes nothing.
-use mathlib.Core.Path.{_≡_, refl, sym, _∙_}
-use mathlib.Core.Bool.{true, false}
-use mathlib.Core.List.{List, [], _∷_}
+use mathlib.Core.Path.{_≡_, refl, sym}
+use mathlib.Core.Bool.{Bool, true}
+use mathlib.Core.List.{List}
 use Prim.Native.Nat.{ℕ, _<_}
 use native.Mathlib.Decide.{ℕ-discrete}
 use native.Mathlib.Omega.{arith}
-use lib.Dec.{eqb, leb}
 use lib.ListN.{getD, set, replicate, getD-replicate, length-set}
 use lib.Seq.{getD-set-same, getD-set-other}
-use borrow.Author.Tests.{ne-eqb}
+use borrow.Author.Tests.{eq-eqb, ne-eqb}
 use Rattle.laws.specs.Search.{largest}
-use Rattle.book.specs.Layout.{lots, prices, haircuts, quotes}
-use Rattle.book.specs.State.{State}
 use Rattle.calendar.specs.Easter.{easter}
 use Rattle.calendar.specs.Gregorian.{dayOfYear, startOf, yearOf, leapDay}
 use Rattle.calendar.specs.Target.{openDay, holiday}
-use Rattle.rules.specs.Sound.{between, openOrNone, soundSecurity}
-use Rattle.facts.proofs.Truth.{split}
-use Rattle.sound_setup.specs.Days.{OpenDays}
+use Rattle.rules.specs.Sound.{openOrNone}
+use Rattle.open_days.specs.Days.{OpenDays}
 
 -- 2 January 2002
 first-open : openDay 1 ≡ true
@@ -41,13 +37,14 @@ module _ (days : List ℕ) (day : ℕ) {place : ℕ} (known : OpenDays days) (ne
     ];
   }
 
+-- a closing day
+module _ (d : ℕ) where
+  pub no-day : d ≡ 0 → true ≡ openOrNone d
+  no-day e = rw (eq-eqb d 0 e)
+
+  pub by-day : {b : Bool} → (d ≡ 0 → ⊥) → b ≡ openDay d → b ≡ openOrNone d
+  by-day n e = rw (ne-eqb d 0 n) e
+
 -- a closing day that there is
 pub some-day : (d : ℕ) → openOrNone d ≡ true → (d ≡ 0 → ⊥) → openDay d ≡ true
 some-day d h n = rw (ne-eqb d 0 n) at h
-
--- the quote day of a sound security
-pub quote-open : (s : State) (i : ℕ) {l q : ℕ} → soundSecurity s i ≡ true → l ≡ s lots i → (l ≡ 0 → ⊥) → q ≡ s quotes i → openDay q ≡ true
-quote-open s i {l} {q} h e n f =
-    let set : eqb (s lots i) 0 ≡ false = ne-eqb (s lots i) 0 (λ z. n (e ∙ z)) in
-    let t = split (leb (s lots i) 1000000 ∷ between 1 3000000 (s prices i) ∷ leb (s haircuts i) 9999 ∷ openDay (s quotes i) ∷ []) (rw set at h) in
-    rw f (t .1 .1 .1)

@@ -1,9 +1,9 @@
--- `sound_setup::note_open` meets its contract.
+-- `open_days::note_open` meets its contract.
 -- Assumes nothing.
-use Rattle.sound_setup.proofs.Days.{day-noted}
+use Rattle.open_days.proofs.Days.{day-noted}
 use borrow.Author.Needs.{needs}
-use Rattle.sound_setup.proofs.note_open.Statement.{statement}
-use Rattle.sound_setup.proofs.note_open.Tie as tie
+use Rattle.open_days.proofs.note_open.Statement.{statement}
+use Rattle.open_days.proofs.note_open.Tie as tie
 
 day-place-requires : tie.Need-day-place-requires
 day-place-requires c κs = search needs

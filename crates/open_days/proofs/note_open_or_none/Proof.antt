@@ -1,9 +1,9 @@
--- `sound_setup::note_open_or_none` meets its contract.
+-- `open_days::note_open_or_none` meets its contract.
 -- Assumes nothing.
-use Rattle.sound_setup.proofs.Days.{some-day}
+use Rattle.open_days.proofs.Days.{some-day}
 use borrow.Author.Needs.{needs}
-use Rattle.sound_setup.proofs.note_open_or_none.Statement.{statement}
-use Rattle.sound_setup.proofs.note_open_or_none.Tie as tie
+use Rattle.open_days.proofs.note_open_or_none.Statement.{statement}
+use Rattle.open_days.proofs.note_open_or_none.Tie as tie
 
 note-open-requires : tie.Need-note-open-requires
 note-open-requires c κs = (search needs, search some-day)

@@ -1,12 +1,12 @@
--- `sound_setup::are_rows_empty` meets its contract.
+-- `row_tests::are_rows_empty` meets its contract.
 -- Assumes nothing.
 use Prim.Native.Nat.{_+_, _*_, _≤_}
 use native.Mathlib.Omega.{arith}
 use Rattle.book.specs.Layout.{bookLength}
-use Rattle.sound_setup.proofs.Empty.{rows-empty, rows-end}
+use Rattle.row_tests.proofs.Empty.{rows-empty, rows-end}
 use borrow.Author.Needs.{needs}
-use Rattle.sound_setup.proofs.are_rows_empty.Statement.{statement}
-use Rattle.sound_setup.proofs.are_rows_empty.Tie as tie
+use Rattle.row_tests.proofs.are_rows_empty.Statement.{statement}
+use Rattle.row_tests.proofs.are_rows_empty.Tie as tie
 
 width-of-requires : tie.Need-width-of-requires
 width-of-requires c κs = search needs

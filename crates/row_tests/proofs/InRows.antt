@@ -6,7 +6,7 @@ use native.Mathlib.Omega.{arith}
 use Rattle.laws.specs.Filled.{filled}
 use Rattle.laws.proofs.Filled.{rules-along}
 use Rattle.book.specs.Layout.{rowsOf, tableCount}
-use Rattle.sound_setup.specs.Rows.{InRows}
+use Rattle.row_tests.specs.Rows.{InRows}
 
 -- the n tables from p on have r rows: so i < r is a row of any m of them
 module _ (r p n : ℕ) (rows : filled (λ k. r) n n ≡ filled (λ k. rowsOf (p + k)) n n) (tables : p + n ≤ tableCount) where
