@@ -1,1 +1,2 @@
 pub mod Keys
+mod Hints

@@ -7,7 +7,7 @@ ghost use Rattle.book.specs.Layout.{bookLength};
 ghost use Rattle.book.specs.State.{state};
 ghost use Rattle.rules.specs.Requests.{hasKey, exposureWith};
 ghost use Rattle.exposure_search.specs.Keys.{keyPlace};
-ghost use Rattle.exposure_search.specs.Places.{placeOf};
+ghost use Rattle.exposure_search.specs.Places.{placeOf, withHint, withHints};
 use book::layout::EXPOSURE_BASKETS;
 use book::layout::EXPOSURE_CLOSINGS;
 use book::layout::EXPOSURE_GIVERS;
@@ -71,9 +71,10 @@ pub fn place_of(book: &[u8], e: usize) -> usize
     )
 }
 
-// Puts a used exposure at its key's place among the hints. A hint is only where to look first, so nothing is promised.
+// Puts a used exposure at its key's place among the hints.
 fn put_hint(hints: &mut [u8; 1024], book: &[u8], e: usize)
     requires { ⌜ (length (now book) ≡ bookLength) × (e < 64) ⌝ }
+    ensures { λ _. ⌜ now (hints .exit) ≡ withHint (state (now (book .entry))) e (now (hints .entry)) ⌝ }
 {
     if book::get(book, USEDS, e) == 1 {
         let place = place_of(book, e);
@@ -81,8 +82,10 @@ fn put_hint(hints: &mut [u8; 1024], book: &[u8], e: usize)
     }
 }
 
+// Puts all used exposures there. A hint is only where to look first: what is found does not depend on it.
 pub fn put_hints(hints: &mut [u8; 1024], book: &[u8])
     requires { ⌜ length (now book) ≡ bookLength ⌝ }
+    ensures { λ _. ⌜ now (hints .exit) ≡ withHints (state (now (book .entry))) (now (hints .entry)) 64 ⌝ }
 {
     let mut e: usize = 0;
     while e < 64 {
