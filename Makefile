@@ -7,6 +7,12 @@ STATICLIB = target/staticlib
 ARCHIVES = $(CRATES:%=$(STATICLIB)/lib%.a)
 LIBRARY = build/libyordzepa.a
 
+# What they are made of: an archive that is older than one of these is proved and made again.
+SOURCES = crates.txt $(wildcard crates/*/src/*.rt crates/*/specs/*.antt)
+
+# Two of rt's runs in one folder disturb each other.
+.NOTPARALLEL:
+
 # The operator's tool.
 TOOL_SOURCES = $(wildcard tools/*.c)
 TOOL = build/yordzepa
@@ -39,21 +45,20 @@ test:
 fuzz: libraries
 	@cargo run --release --offline --locked --quiet --manifest-path tests/Cargo.toml --features engine --bin fuzz
 
-# The library for C and Rust: build/libyordzepa.a, declared in include/yordzepa.h. rt knows what is proved already.
-libraries:
-	@for name in $(CRATES); do rt staticlib $$name >/dev/null || exit 1; done
-	@$(MAKE) --no-print-directory -s $(LIBRARY)
+# The library for C and Rust: build/libyordzepa.a, declared in include/yordzepa.h.
+libraries: $(LIBRARY)
 
 # One archive of the members of all: a host's linker takes those that the host calls.
 $(LIBRARY): $(ARCHIVES)
 	mkdir -p $(dir $@)
 	{ echo CREATE $@; printf 'ADDLIB %s\n' $(ARCHIVES); echo SAVE; echo END; } | $(AR) -M
 
-# An archive that is not there yet.
-target/staticlib/lib%.a:
-	rt staticlib $* >/dev/null
+# One crate's archive; rt proves the crate for it. What rt says is shown only where it fails.
+$(STATICLIB)/lib%.a: $(SOURCES)
+	@mkdir -p build
+	rt staticlib $* >build/$*.log 2>&1 || { cat build/$*.log; exit 1; }
 
-target/bin/desk:
+target/bin/desk: $(SOURCES)
 	rt check desk
 
 # The operator's tool: build/yordzepa. docs/TOOL.md tells how it is used.

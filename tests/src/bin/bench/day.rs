@@ -21,7 +21,7 @@ pub fn print(both: &mut Both) {
     let note = "Calls a second over a whole day, from the next day's call to the last settle: all \
                 prices and a mark in the morning, then price records, reads, deposits, withdrawals, \
                 recalls, requests up to a full table and refused from then on, cancels, a settle \
-                every 500 calls and a mark every 1,000.";
+                or a mark every 500 calls, in turn.";
     head("A day", note, "", 14, &HEADS);
     let count = day.calls.len() as f64;
     let a_second = |time: f64| format!("{:.0}", count / time * 1e9);
