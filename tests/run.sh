@@ -1,7 +1,7 @@
 #!/bin/sh
-# All tests, in order, from the repository's root or anywhere else: the library is proved and
-# written, the header is held to it, the C host is compiled and run, the second program is compared
-# with it, and the operator's tool is tried. Ends at the first failure.
+# All tests, in order, from the repository's root or anywhere else: the documents are held to the tree,
+# the library is proved and written, the header is held to it, the C host is compiled and run, the
+# second program is compared with it, and the operator's tool is tried. Ends at the first failure.
 set -eu
 cd "$(dirname "$0")/.."
 
@@ -44,6 +44,7 @@ libraries_and_program() {
     mkdir -p target/bin
     cp "$work/copy/target/bin/desk" target/bin/desk
 }
+step "documents against the tree" sh tests/docs-check.sh
 # shellcheck disable=SC2046
 step "rt check of what the engine uses" rt check $(sed -n 's/^engine: //p' crates.txt)
 step "rt staticlib of seven crates, rt check desk" libraries_and_program
