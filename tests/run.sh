@@ -39,7 +39,7 @@ program_and_reads() {
 program_and_libraries() {
     program_and_reads >"$work/beside" 2>&1 &
     beside=$!
-    libraries engine records picking calendar baskets valuation || { kill "$beside"; return 1; }
+    libraries engine records picking_calls calendar baskets valuation || { kill "$beside"; return 1; }
     wait "$beside" || { cat "$work/beside"; return 1; }
     mkdir -p target/bin
     cp "$work/copy/target/bin/desk" target/bin/desk
