@@ -2,7 +2,7 @@
 VERSION = 0.1.0
 
 # The crates with exported functions, each of which rt writes to an archive, and the one library of them all.
-CRATES = calendar valuation baskets picking records reads engine
+CRATES = calendar valuation baskets picking_calls records reads engine
 STATICLIB = target/staticlib
 ARCHIVES = $(CRATES:%=$(STATICLIB)/lib%.a)
 LIBRARY = build/libyordzepa.a

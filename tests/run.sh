@@ -29,7 +29,7 @@ step() {
 # What the engine uses; then, each on one core, the libraries, which `rt staticlib` proves once more, and the program in a copy, since
 # two of rt's runs in one folder disturb each other.
 libraries() {
-    for library in engine reads records picking calendar baskets valuation; do
+    for library in engine reads records picking_calls calendar baskets valuation; do
         rt staticlib "$library" || return 1
     done
 }

@@ -1,4 +1,3 @@
-pub mod Fresh
 pub mod Ready
 pub mod Rows
 pub mod Steps

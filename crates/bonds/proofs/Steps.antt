@@ -3,10 +3,9 @@
 use mathlib.Core.Path.{_≡_, _∙_}
 use mathlib.Core.List.{List}
 use Prim.Native.Nat.{ℕ, _*_}
-use Rattle.book.specs.Layout.{exposureGivers, exposureBaskets, maps, ages, today, accounts, positions}
+use Rattle.book.specs.Layout.{exposureGivers, today, accounts, positions}
 use Rattle.book.specs.State.{State, rowAt, columnsOf, raised, lowered, Raisable, Lowerable}
 use Rattle.baskets.specs.Fresh.{eligibleBy, EligibilityFor}
-use Rattle.baskets.specs.declared.Basket.{Basket}
 use Rattle.baskets.specs.declared.Eligibility.{Eligibility}
 use Rattle.picking.specs.Free.{freed}
 use Rattle.picking.specs.Pick.{picked}
@@ -35,10 +34,6 @@ module _ (s : State) (e : ℕ) (by : List ℕ) {g : ℕ} (gq : g ≡ s exposureG
 
     pub given-back : {u : State} → t ≡ lowered s positions (64 * e) by → u ≡ raised t accounts (64 * g) by → u ≡ giveBack s e by
     given-back q r = rw (r, q, gq)
-
--- the basket that the code reads
-pub basket-read : (s : State) (e : ℕ) {b m a : ℕ} → b ≡ s exposureBaskets e → m ≡ s maps b → a ≡ s ages b → _≡_ {A = Basket} (record { map = m; oldest = a }) (basketOf s e)
-basket-read s e bq mq aq = rw (mq, aq, bq)
 
 -- Pick and Free on the rows that the code reads
 module _ (s : State) (e amount : ℕ) {columns row : List ℕ} (cq : columns ≡ columnsOf s) where

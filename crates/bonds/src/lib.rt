@@ -1,22 +1,15 @@
 // Bonds on the book: moves between a giver's account and an exposure's position, and Pick and Free for an exposure.
 ghost use mathlib.Core.Path.{_≡_};
-ghost use Prim.Native.Nat.{_<_, _≤_, _-_};
+ghost use Prim.Native.Nat.{_-_};
 ghost use lib.ListN.{length};
-ghost use Rattle.baskets.specs.Fresh.{EligibilityFor};
-ghost use Rattle.book.specs.Layout.{bookLength, today, exposureBaskets};
+ghost use Rattle.book.specs.Layout.{bookLength};
 ghost use Rattle.book.specs.State.{state, columnsOf};
-ghost use Rattle.rules.specs.Stock.{basketOf, pledge, giveBack, eligibleFor, pickFor, freeFor};
-ghost use Rattle.bonds.specs.Fresh.{Aged, FreshBaskets};
+ghost use Rattle.rules.specs.Stock.{pledge, giveBack, eligibleFor, pickFor, freeFor};
+ghost use Rattle.eligibility.specs.Fresh.{FreshBaskets};
 ghost use Rattle.bonds.specs.Moves.{Pledging, GivingBack, Pickable, Freeable};
-use baskets::Basket;
-use baskets::Eligibility;
 use book::layout::ACCOUNTS;
-use book::layout::AGES;
-use book::layout::EXPOSURE_BASKETS;
 use book::layout::EXPOSURE_GIVERS;
-use book::layout::MAPS;
 use book::layout::POSITIONS;
-use book::layout::TODAY;
 use picking::Outcome;
 
 // Bonds go from the giver's account into the exposure's position.
@@ -39,67 +32,6 @@ pub fn give_back(book: &mut [u8], e: usize, nominals: &[u64; 64])
     book::raise(book, ACCOUNTS, 64 * owner, nominals);
 }
 
-// The map and greatest age of an exposure's basket.
-pub fn basket_of(book: &[u8], e: usize) -> Basket
-    requires { ⌜ (length (now book) ≡ bookLength) × (e < 64) × (state (now book) exposureBaskets e < 16) ⌝ }
-    ensures { λ r. ⌜ r ≡ basketOf (state (now (book .entry))) e ⌝ }
-{
-    let b = book::get(book, EXPOSURE_BASKETS, e) as usize;
-    Basket {
-        map: book::get(book, MAPS, b),
-        oldest: book::get(book, AGES, b),
-    }
-}
-
-// The larger of two numbers.
-fn larger(a: u64, b: u64) -> u64
-    ensures { λ r. ⌜ (a ≤ r) × (b ≤ r) × (a ≤ 255 → b ≤ 255 → r ≤ 255) ⌝ }
-{
-    if a < b { b } else { a }
-}
-
-// The greatest age that a basket takes a price of.
-fn greatest_age(book: &[u8]) -> u64
-    requires { ⌜ (length (now book) ≡ bookLength) × Aged 255 16 (state (now book)) ⌝ }
-    ensures { λ r. ⌜ Aged r 16 (state (now (book .entry))) × (r ≤ 255) ⌝ }
-{
-    let mut most: u64 = 0;
-    let mut b: usize = 0;
-    while b < 16 {
-        most = larger(most, book::get(book, AGES, b));
-        b += 1;
-    }
-    most
-}
-
-// The first day of a fresh price for each basket, found once for all Picks of a call.
-pub fn fresh_since(book: &[u8], columns: &[u64; 256]) -> [u64; 16]
-    requires { ⌜ (length (now book) ≡ bookLength) × Aged 255 16 (state (now book)) × (now columns ≡ columnsOf (state (now book))) ⌝ }
-    ensures { λ r. ⌜ FreshBaskets (state (now (book .entry))) r ⌝ }
-{
-    let most = greatest_age(book) as usize;
-    let days = baskets::fresh_days(columns, book::get(book, TODAY, 0), most);
-    let mut since = [0u64; 16];
-    let mut b: usize = 0;
-    while b < 16 {
-        let age = book::get(book, AGES, b) as usize;
-        since[b] = days[age];
-        b += 1;
-    }
-    since
-}
-
-// Which securities are eligible for an exposure, by the first fresh days.
-pub fn eligibility_of(book: &[u8], since: &[u64; 16], e: usize) -> Eligibility
-    requires { ⌜ (length (now book) ≡ bookLength) × (e < 64) × (state (now book) exposureBaskets e < 16) × FreshBaskets (state (now book)) (now since) ⌝ }
-    ensures { λ r. ⌜ EligibilityFor (basketOf (state (now (book .entry))) e) (state (now (book .entry)) today 0) (columnsOf (state (now (book .entry)))) r ⌝ }
-{
-    let b = book::get(book, EXPOSURE_BASKETS, e) as usize;
-    let map = book::get(book, MAPS, b);
-    let day = since[b];
-    Eligibility { map, since: day }
-}
-
 // Picks an amount for an exposure from its giver's account.
 pub fn pick_for(
     book: &[u8],
@@ -113,7 +45,7 @@ pub fn pick_for(
 {
     let giver = book::get(book, EXPOSURE_GIVERS, e) as usize;
     let account = book::row_at(book, ACCOUNTS, 64 * giver);
-    let x = eligibility_of(book, since, e);
+    let x = eligibility::eligibility_of(book, since, e);
     picking::pick_for(&account, columns, x, amount)
 }
 

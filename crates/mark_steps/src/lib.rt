@@ -6,7 +6,7 @@ ghost use Rattle.laws.specs.Filled.{filled};
 ghost use Rattle.laws.specs.Search.{all};
 ghost use Rattle.book.specs.Layout.{bookLength};
 ghost use Rattle.book.specs.State.{state};
-ghost use Rattle.bonds.specs.Fresh.{FreshBaskets};
+ghost use Rattle.eligibility.specs.Fresh.{FreshBaskets};
 ghost use Rattle.bonds.specs.Moves.{SoundBook, GivingBack};
 ghost use Rattle.rules.specs.Marking.{moved, ineligibleBack, excessBack, shortfallIn, missingOf};
 ghost use Rattle.rules.specs.Stock.{positionOf, giveBack};
@@ -114,7 +114,7 @@ pub fn give_ineligible(book: &mut [u8], columns: &[u64; 256], since: &[u64; 16],
     if book::get(book, USEDS, e) != 1 {
         return 0;
     }
-    let x = bonds::eligibility_of(book, since, e);
+    let x = eligibility::eligibility_of(book, since, e);
     if may_all_stay(book, columns, x, e) {
         return 0;
     }

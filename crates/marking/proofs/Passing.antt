@@ -14,9 +14,9 @@ use Rattle.laws.proofs.Cases.{either}
 use Rattle.securities.specs.Position.{worth, nominalsOf}
 use Rattle.book.specs.Layout.{today, ages, useds, exposures, positions}
 use Rattle.book.specs.State.{State, state, columnsOf}
-use Rattle.bonds.specs.Fresh.{FreshBaskets, SamePrices}
+use Rattle.eligibility.specs.Fresh.{FreshBaskets, SamePrices}
+use Rattle.eligibility.proofs.Fresh.{fresh-same}
 use Rattle.bonds.specs.Moves.{SoundBook}
-use Rattle.bonds.proofs.Fresh.{fresh-same}
 use Rattle.bonds.proofs.Rows.{amount-le}
 use Rattle.facts.proofs.Filled.{filled-same}
 use Rattle.rules.specs.Marking.{onExposures, moved, missingOf}

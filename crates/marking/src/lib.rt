@@ -8,7 +8,7 @@ ghost use Rattle.laws.specs.Filled.{filled};
 ghost use Rattle.laws.specs.Sum.{sum};
 ghost use Rattle.book.specs.Layout.{bookLength};
 ghost use Rattle.book.specs.State.{state};
-ghost use Rattle.bonds.specs.Fresh.{FreshBaskets};
+ghost use Rattle.eligibility.specs.Fresh.{FreshBaskets};
 ghost use Rattle.bonds.specs.Moves.{SoundBook};
 ghost use Rattle.mark_steps.specs.Stepped.{Stepped};
 ghost use Rattle.rules.specs.Marking.{onExposures, moved, ineligibleBack, excessBack, shortfallIn, missingOf, marked};
@@ -107,7 +107,7 @@ pub fn mark(book: &mut [u8]) -> Totals
     ensures { λ r. ⌜ (r ≡ totalsOf (marked (state (now (book .entry))))) × (state (now (book .exit)) ≡ marked (state (now (book .entry))) .state) ⌝ }
 {
     let columns = book::columns(book);
-    let since = bonds::fresh_since(book, &columns);
+    let since = eligibility::fresh_since(book, &columns);
     let gave = give_all_ineligible(book, &columns, &since);
     let freed = free_all(book, &columns, &gave);
     let missing = freed.missing;

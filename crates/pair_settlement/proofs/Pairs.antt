@@ -14,7 +14,7 @@ use Rattle.rules.specs.Settlement.{bothSettled}
 use Rattle.facts.proofs.Keeps.{Good}
 use Rattle.facts.proofs.Rows.{Fields, Kind, fop, return, Return, Paired, used-fields, used-paired, used-exposure}
 use Rattle.settlement_laws.proofs.Settling.{return-names, fop-below}
-use Rattle.bonds.proofs.Fresh.{columns-same}
+use Rattle.eligibility.proofs.Fresh.{columns-same}
 use Rattle.bonds.specs.Moves.{Pledging, Freeable}
 use Rattle.pair_settlement.specs.Pairs.{PairOf, Settleable}
 

@@ -2,7 +2,7 @@
 ghost use mathlib.Core.Path.{_≡_};
 ghost use Prim.Native.Nat.{_<_, _≤_};
 ghost use lib.ListN.{length};
-ghost use Rattle.bonds.specs.Fresh.{FreshBaskets};
+ghost use Rattle.eligibility.specs.Fresh.{FreshBaskets};
 ghost use Rattle.book.specs.Layout.{settleds, amounts, exposures, bookLength};
 ghost use Rattle.book.specs.State.{state, put, columnsOf};
 ghost use Rattle.facts.proofs.Keeps.{Good};

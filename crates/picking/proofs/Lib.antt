@@ -1,3 +1,2 @@
 pub mod Frees
-pub mod Legal
 pub mod Picks

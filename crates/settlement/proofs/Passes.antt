@@ -14,8 +14,8 @@ use Rattle.laws.proofs.Cases.{either}
 use Rattle.facts.proofs.Keeps.{Good}
 use Rattle.totals.specs.declared.Totals.{Totals}
 use Rattle.totals.specs.Totals.{totalsOf}
-use Rattle.bonds.specs.Fresh.{SamePrices}
-use Rattle.bonds.proofs.Fresh.{same-start, same-prices, same-then}
+use Rattle.eligibility.specs.Fresh.{SamePrices}
+use Rattle.eligibility.proofs.Fresh.{same-start, same-prices, same-then}
 use Rattle.settlement_laws.proofs.Finding.{Due, due-row}
 use Rattle.settlement_laws.proofs.Settling.{return-good, fop-good}
 use Rattle.settlement_laws.proofs.Staying.{Stays, stays-start, return-stays, fop-stays}

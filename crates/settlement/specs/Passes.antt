@@ -6,7 +6,7 @@ use mathlib.Core.Bool.{cond}
 use mathlib.Core.List.{[]}
 use Prim.Native.Nat.{ℕ, _+_, _*_, _≤_}
 use lib.Dec.{eqb}
-use Rattle.bonds.specs.Fresh.{SamePrices}
+use Rattle.eligibility.specs.Fresh.{SamePrices}
 use Rattle.book.specs.State.{State}
 use Rattle.facts.proofs.Keeps.{Good}
 use Rattle.rules.specs.Settlement.{Settling, settleReturn, settleFop, settleAll}

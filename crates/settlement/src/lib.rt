@@ -2,7 +2,7 @@
 ghost use mathlib.Core.Path.{_≡_};
 ghost use mathlib.Core.Bool.{true};
 ghost use lib.ListN.{length};
-ghost use Rattle.bonds.specs.Fresh.{FreshBaskets};
+ghost use Rattle.eligibility.specs.Fresh.{FreshBaskets};
 ghost use Rattle.book.specs.Layout.{bookLength};
 ghost use Rattle.book.specs.State.{state, columnsOf};
 ghost use Rattle.facts.proofs.Keeps.{Good};
@@ -81,7 +81,7 @@ pub fn settle(book: &mut [u8]) -> Totals
     ensures { λ r. ⌜ (r ≡ totalsOf (settlement (state (now (book .entry))))) × (state (now (book .exit)) ≡ settlement (state (now (book .entry))) .state) ⌝ }
 {
     let columns = book::columns(book);
-    let since = bonds::fresh_since(book, &columns);
+    let since = eligibility::fresh_since(book, &columns);
     let none = Totals { a: 0, b: 0, m: 0 };
     let returns = settle_pairs(book, &columns, &since, 7, none);
     settle_pairs(book, &columns, &since, 6, returns)

@@ -49,7 +49,7 @@ pub fn substitutes(book: &[u8], columns: &[u64; 256], fields: &[u64; 8]) -> Outc
     let value = securities::worth_of(&left, columns);
     let missing = bonds::missing_from(book::get(book, EXPOSURES, e), value);
     let account = account_after(book, fields);
-    let basket = bonds::basket_of(book, e);
+    let basket = eligibility::basket_of(book, e);
     let today = book::get(book, TODAY, 0);
     let x = baskets::eligibility_on(basket, today, columns);
     picking::pick(&account, columns, x, fields[2], missing)

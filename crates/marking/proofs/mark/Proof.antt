@@ -1,6 +1,6 @@
 -- `marking::mark` meets its contract.
 -- Assumes nothing.
-use Rattle.bonds.proofs.Fresh.{sound-aged}
+use Rattle.eligibility.proofs.Fresh.{sound-aged}
 use Rattle.book.specs.State.{state}
 use Rattle.facts.proofs.Facts.{sound-facts}
 use Rattle.mark_steps.proofs.Passable.{first-pass, second-pass}

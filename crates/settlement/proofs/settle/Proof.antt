@@ -2,7 +2,7 @@
 -- Assumes nothing.
 use mathlib.Core.Path.{sym, _∙_}
 use native.Mathlib.Omega.{arith}
-use Rattle.bonds.proofs.Fresh.{sound-aged, fresh-same}
+use Rattle.eligibility.proofs.Fresh.{sound-aged, fresh-same}
 use Rattle.book.proofs.Images.{state-fits}
 use Rattle.book.specs.State.{state}
 use Rattle.facts.proofs.Facts.{sound-facts}

@@ -5,7 +5,7 @@ use mathlib.Core.Path.{refl, sym, _∙_, _≡_}
 use Prim.Native.Nat.{ℕ, _-_, _≤_, _<_}
 use native.Mathlib.Omega.{arith}
 use lib.ListN.{length, length-replicate}
-use Rattle.bonds.proofs.Fresh.{fresh-same}
+use Rattle.eligibility.proofs.Fresh.{fresh-same}
 use Rattle.book.specs.Layout.{bookLength}
 use Rattle.book.specs.State.{state}
 use Rattle.settlement_laws.proofs.Staying.{Stays, stays-start}

@@ -15,14 +15,14 @@ use Rattle.calendar.specs.Target.{openDay}
 use Rattle.securities.specs.Position.{nominalsOf, Within, legalNominals}
 use Rattle.securities.specs.Security.{AllInBounds, legalSecurities, legalQuotes}
 use Rattle.securities.proofs.Legal.{all-in-bounds, all-within}
-use Rattle.picking.specs.Answers.{legalPick, legalDays, legalFree, pickRefused, freeRefused, pickedFor, freedDown}
 use Rattle.picking.specs.Free.{freed}
 use Rattle.picking.specs.Pick.{picked}
-use Rattle.picking.specs.declared.FreeAnswer.{FreeAnswer}
 use Rattle.picking.specs.declared.Freed.{Freed}
 use Rattle.picking.specs.declared.Outcome.{Outcome}
-use Rattle.picking.specs.declared.PickAnswer.{PickAnswer}
 use Rattle.picking.proofs.Picks.{picked-eligible}
+use Rattle.picking_calls.specs.Answers.{legalPick, legalDays, legalFree, pickRefused, freeRefused, pickedFor, freedDown}
+use Rattle.picking_calls.specs.declared.FreeAnswer.{FreeAnswer}
+use Rattle.picking_calls.specs.declared.PickAnswer.{PickAnswer}
 
 module _ (columns account : List ℕ) (k : Basket) (amount : ℕ) {b : Bool} where
   pub pick-nominals : b ≡ legalNominals account → not b ≡ true → false ≡ legalPick columns account k amount

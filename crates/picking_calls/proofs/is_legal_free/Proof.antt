@@ -1,9 +1,9 @@
--- `picking::is_legal_free` meets its contract.
+-- `picking_calls::is_legal_free` meets its contract.
 -- Assumes nothing.
-use Rattle.picking.proofs.Legal.{free-nominals, free-securities, free-exposure}
+use Rattle.picking_calls.proofs.Legal.{free-nominals, free-securities, free-exposure}
 use borrow.Author.Needs.{needs}
-use Rattle.picking.proofs.is_legal_free.Statement.{statement}
-use Rattle.picking.proofs.is_legal_free.Tie as tie
+use Rattle.picking_calls.proofs.is_legal_free.Statement.{statement}
+use Rattle.picking_calls.proofs.is_legal_free.Tie as tie
 
 are-nominals-requires : tie.Need-are-nominals-requires
 are-nominals-requires c κs = search needs

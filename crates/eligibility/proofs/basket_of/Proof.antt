@@ -1,9 +1,9 @@
--- `bonds::basket_of` meets its contract.
+-- `eligibility::basket_of` meets its contract.
 -- Assumes nothing.
-use Rattle.bonds.proofs.Steps.{basket-read}
+use Rattle.eligibility.proofs.Baskets.{basket-read}
 use borrow.Author.Needs.{needs}
-use Rattle.bonds.proofs.basket_of.Statement.{statement}
-use Rattle.bonds.proofs.basket_of.Tie as tie
+use Rattle.eligibility.proofs.basket_of.Statement.{statement}
+use Rattle.eligibility.proofs.basket_of.Tie as tie
 
 get-requires : tie.Need-get-requires
 get-requires c κs = search needs

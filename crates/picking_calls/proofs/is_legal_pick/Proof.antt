@@ -1,9 +1,9 @@
--- `picking::is_legal_pick` meets its contract.
+-- `picking_calls::is_legal_pick` meets its contract.
 -- Assumes nothing.
-use Rattle.picking.proofs.Legal.{pick-nominals, pick-securities, pick-map, pick-oldest, pick-amount}
+use Rattle.picking_calls.proofs.Legal.{pick-nominals, pick-securities, pick-map, pick-oldest, pick-amount}
 use borrow.Author.Needs.{needs}
-use Rattle.picking.proofs.is_legal_pick.Statement.{statement}
-use Rattle.picking.proofs.is_legal_pick.Tie as tie
+use Rattle.picking_calls.proofs.is_legal_pick.Statement.{statement}
+use Rattle.picking_calls.proofs.is_legal_pick.Tie as tie
 
 are-nominals-requires : tie.Need-are-nominals-requires
 are-nominals-requires c κs = search needs

@@ -1,9 +1,9 @@
--- `picking::picking_pick` meets its contract.
+-- `picking_calls::picking_pick` meets its contract.
 -- Assumes nothing.
-use Rattle.picking.proofs.Legal.{pick-ready, pick-refused-range, pick-refused-day, pick-done}
+use Rattle.picking_calls.proofs.Legal.{pick-ready, pick-refused-range, pick-refused-day, pick-done}
 use borrow.Author.Needs.{needs}
-use Rattle.picking.proofs.picking_pick.Statement.{statement}
-use Rattle.picking.proofs.picking_pick.Tie as tie
+use Rattle.picking_calls.proofs.picking_pick.Statement.{statement}
+use Rattle.picking_calls.proofs.picking_pick.Tie as tie
 
 is-legal-pick-requires : tie.Need-is-legal-pick-requires
 is-legal-pick-requires c κs = search needs

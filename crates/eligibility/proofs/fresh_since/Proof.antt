@@ -1,4 +1,4 @@
--- `bonds::fresh_since` meets its contract: the baskets below `b` have their day.
+-- `eligibility::fresh_since` meets its contract: the baskets below `b` have their day.
 -- Assumes nothing.
 use mathlib.Core.Path.{_≡_}
 use Prim.Native.Nat.{_-_, _≤_, _<_}
@@ -8,10 +8,10 @@ use Rattle.laws.specs.Filled.{filled}
 use Rattle.laws.proofs.Filled.{filled-first, filled-next}
 use Rattle.book.specs.Layout.{ages}
 use Rattle.book.specs.State.{state}
-use Rattle.bonds.proofs.Fresh.{baskets-fresh}
+use Rattle.eligibility.proofs.Fresh.{baskets-fresh}
 use borrow.Author.Needs.{needs}
-use Rattle.bonds.proofs.fresh_since.Statement.{statement}
-use Rattle.bonds.proofs.fresh_since.Tie as tie
+use Rattle.eligibility.proofs.fresh_since.Statement.{statement}
+use Rattle.eligibility.proofs.fresh_since.Tie as tie
 
 abbrev Inv-loop : tie.InvT-loop
 Inv-loop book columns most days since₀ b₀ since b = (b ≤ 16) × (since ≡ filled (λ j. getD days (state book ages j) 0) 16 b)

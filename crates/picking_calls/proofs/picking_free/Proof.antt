@@ -1,12 +1,12 @@
--- `picking::picking_free` meets its contract.
+-- `picking_calls::picking_free` meets its contract.
 -- Assumes nothing.
 use mathlib.Core.Path.{sym, _∙_}
 use denote.Ref.{now}
 use borrow.Author.Tests.{not-false}
-use Rattle.picking.proofs.Legal.{free-in-bounds, free-within, free-refused, free-done}
+use Rattle.picking_calls.proofs.Legal.{free-in-bounds, free-within, free-refused, free-done}
 use borrow.Author.Needs.{needs}
-use Rattle.picking.proofs.picking_free.Statement.{statement}
-use Rattle.picking.proofs.picking_free.Tie as tie
+use Rattle.picking_calls.proofs.picking_free.Statement.{statement}
+use Rattle.picking_calls.proofs.picking_free.Tie as tie
 
 is-legal-free-requires : tie.Need-is-legal-free-requires
 is-legal-free-requires c κs = search needs

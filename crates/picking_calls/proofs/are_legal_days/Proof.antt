@@ -1,11 +1,11 @@
--- `picking::are_legal_days` meets its contract.
+-- `picking_calls::are_legal_days` meets its contract.
 -- Assumes nothing.
 use mathlib.Core.Path.{sym, _∙_}
 use borrow.Author.Tests.{not-false}
-use Rattle.picking.proofs.Legal.{closed-today, by-quotes}
+use Rattle.picking_calls.proofs.Legal.{closed-today, by-quotes}
 use borrow.Author.Needs.{needs}
-use Rattle.picking.proofs.are_legal_days.Statement.{statement}
-use Rattle.picking.proofs.are_legal_days.Tie as tie
+use Rattle.picking_calls.proofs.are_legal_days.Statement.{statement}
+use Rattle.picking_calls.proofs.are_legal_days.Tie as tie
 
 is-open-requires : tie.Need-is-open-requires
 is-open-requires c κs = search needs

@@ -16,7 +16,7 @@ use Rattle.rules.specs.Stock.{basketOf}
 use Rattle.facts.proofs.Facts.{Sound}
 use Rattle.facts.proofs.Filled.{filled-same}
 use Rattle.facts.proofs.Stock.{age-le}
-use Rattle.bonds.specs.Fresh.{Aged, FreshBaskets, SamePrices}
+use Rattle.eligibility.specs.Fresh.{Aged, FreshBaskets, SamePrices}
 
 -- a sound book's baskets take prices of 255 open days at most
 pub sound-aged : (s : State) → Sound s → Aged 255 16 s

@@ -1,10 +1,10 @@
--- `bonds::eligibility_of` meets its contract.
+-- `eligibility::eligibility_of` meets its contract.
 -- Assumes nothing.
 use Rattle.book.specs.State.{state}
-use Rattle.bonds.proofs.Fresh.{fresh-for}
+use Rattle.eligibility.proofs.Fresh.{fresh-for}
 use borrow.Author.Needs.{needs}
-use Rattle.bonds.proofs.eligibility_of.Statement.{statement}
-use Rattle.bonds.proofs.eligibility_of.Tie as tie
+use Rattle.eligibility.proofs.eligibility_of.Statement.{statement}
+use Rattle.eligibility.proofs.eligibility_of.Tie as tie
 
 get-requires : tie.Need-get-requires
 get-requires c κs = search needs

@@ -11,10 +11,10 @@ use Rattle.baskets.specs.declared.Basket.{Basket}
 use Rattle.calendar.specs.Target.{openDay}
 use Rattle.securities.specs.Position.{legalNominals}
 use Rattle.securities.specs.Security.{legalSecurities, legalQuotes}
 use Rattle.picking.specs.Free.{freed}
 use Rattle.picking.specs.Pick.{nothing, picked}
-use Rattle.picking.specs.declared.FreeAnswer as free
-use Rattle.picking.specs.declared.PickAnswer as pick
+use Rattle.picking_calls.specs.declared.FreeAnswer as free
+use Rattle.picking_calls.specs.declared.PickAnswer as pick
 
 -- a refusal of a pick, and of a free: the other numbers are 0
 abbrev pub pickRefused : ℕ → pick.PickAnswer

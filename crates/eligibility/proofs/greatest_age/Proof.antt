@@ -1,14 +1,14 @@
--- `bonds::greatest_age` meets its contract: no basket below `b` takes an older price.
+-- `eligibility::greatest_age` meets its contract: no basket below `b` takes an older price.
 -- Assumes nothing.
 use mathlib.Core.Path.{_≡_}
 use Prim.Native.Nat.{_-_, _≤_}
 use native.Mathlib.Omega.{arith}
 use Rattle.book.specs.State.{state}
-use Rattle.bonds.specs.Fresh.{Aged}
-use Rattle.bonds.proofs.Fresh.{aged-first, aged-next}
+use Rattle.eligibility.specs.Fresh.{Aged}
+use Rattle.eligibility.proofs.Fresh.{aged-first, aged-next}
 use borrow.Author.Needs.{needs}
-use Rattle.bonds.proofs.greatest_age.Statement.{statement}
-use Rattle.bonds.proofs.greatest_age.Tie as tie
+use Rattle.eligibility.proofs.greatest_age.Statement.{statement}
+use Rattle.eligibility.proofs.greatest_age.Tie as tie
 
 abbrev Inv-loop : tie.InvT-loop
 Inv-loop book most₀ b₀ most b = (b ≤ 16) × Aged most b (state book) × (most ≤ 255)

@@ -1,0 +1,2 @@
+pub mod Baskets
+pub mod Fresh
