@@ -4,7 +4,7 @@
 use crate::desk::{Desk, SecondDesk};
 use crate::image::{
     ACCOUNTS, EXPOSURE_AMOUNTS, EXPOSURE_BASKETS, EXPOSURE_CLOSINGS, EXPOSURE_GIVERS,
-    EXPOSURE_TAKERS, POSITIONS, USEDS,
+    EXPOSURE_TAKERS, POSITIONS, IN_USE,
 };
 use crate::lists::{Call, List};
 use crate::second::book::{Book, Key, Nominals, BASKETS, EXPOSURES, PARTICIPANTS, SECURITIES};
@@ -315,7 +315,7 @@ impl Run<'_> {
             }
         }
         for (e, paper) in ledger.exposures().iter().enumerate() {
-            let used = match USEDS.get(other, e) {
+            let used = match IN_USE.get(other, e) {
                 0 => None,
                 _ => Some([
                     EXPOSURE_GIVERS.get(other, e),
@@ -403,7 +403,7 @@ fn holdings_of(bytes: &[u8]) -> Vec<[u64; SECURITIES]> {
         }
     }
     for e in 0..EXPOSURES {
-        if USEDS.get(bytes, e) == 0 {
+        if IN_USE.get(bytes, e) == 0 {
             continue;
         }
         let giver = EXPOSURE_GIVERS.get(bytes, e) as usize;

@@ -46,12 +46,12 @@ pub const AMOUNTS: Table = table(8140, 256, 8);
 pub const SETTLEMENTS: Table = table(10188, 256, 4);
 pub const CLOSINGS: Table = table(11212, 256, 4);
 pub const REFERENCES: Table = table(12236, 256, 8);
-pub const SETTLEDS: Table = table(14284, 256, 8);
+pub const SETTLED_AMOUNTS: Table = table(14284, 256, 8);
 pub const PARTNERS: Table = table(16332, 256, 4);
 pub const PAIR_PARTIALS: Table = table(17356, 256, 4);
 pub const CANCELS: Table = table(18380, 256, 4);
 pub const ENDS: Table = table(19404, 256, 4);
-pub const USEDS: Table = table(20428, 64, 4);
+pub const IN_USE: Table = table(20428, 64, 4);
 pub const EXPOSURE_GIVERS: Table = table(20684, 64, 4);
 pub const EXPOSURE_TAKERS: Table = table(20940, 64, 4);
 pub const EXPOSURE_BASKETS: Table = table(21196, 64, 4);
@@ -88,12 +88,12 @@ pub const TABLES: [Table; 39] = [
     SETTLEMENTS,
     CLOSINGS,
     REFERENCES,
-    SETTLEDS,
+    SETTLED_AMOUNTS,
     PARTNERS,
     PAIR_PARTIALS,
     CANCELS,
     ENDS,
-    USEDS,
+    IN_USE,
     EXPOSURE_GIVERS,
     EXPOSURE_TAKERS,
     EXPOSURE_BASKETS,
@@ -164,7 +164,7 @@ pub fn bytes_of(book: &Book) -> Vec<u8> {
         put_request(b, row, request);
     }
     for (e, exposure) in book.used_exposures() {
-        USEDS.put_word(b, e, 1);
+        IN_USE.put_word(b, e, 1);
         EXPOSURE_GIVERS.put_word(b, e, u32::from(exposure.key.giver));
         EXPOSURE_TAKERS.put_word(b, e, u32::from(exposure.key.taker));
         EXPOSURE_BASKETS.put_word(b, e, u32::from(exposure.key.basket));
@@ -203,7 +203,7 @@ fn put_request(b: &mut [u8], row: usize, request: &Request) {
     SETTLEMENTS.put_word(b, row, request.settlement);
     CLOSINGS.put_word(b, row, closing);
     REFERENCES.put(b, row, request.reference);
-    SETTLEDS.put(b, row, request.settled);
+    SETTLED_AMOUNTS.put(b, row, request.settled);
     PARTNERS.put_word(b, row, request.partner.map_or(0, |partner| u32::from(partner) + 1));
     PAIR_PARTIALS.put_word(b, row, u32::from(request.partial));
     CANCELS.put_word(b, row, u32::from(request.cancelled));
@@ -300,7 +300,7 @@ fn request_of(bytes: &[u8], row: usize) -> Option<Option<Request>> {
             SETTLEMENTS,
             CLOSINGS,
             REFERENCES,
-            SETTLEDS,
+            SETTLED_AMOUNTS,
             PARTNERS,
             PAIR_PARTIALS,
             CANCELS,
@@ -334,7 +334,7 @@ fn request_of(bytes: &[u8], row: usize) -> Option<Option<Request>> {
         amount: AMOUNTS.get(bytes, row),
         settlement: word(SETTLEMENTS),
         reference: REFERENCES.get(bytes, row),
-        settled: SETTLEDS.get(bytes, row),
+        settled: SETTLED_AMOUNTS.get(bytes, row),
         partner,
         partial: flag(PAIR_PARTIALS.get(bytes, row))?,
         cancelled: flag(CANCELS.get(bytes, row))?,
@@ -351,7 +351,7 @@ fn exposure_of(bytes: &[u8], e: usize) -> Option<Option<Exposure>> {
         closing: EXPOSURE_CLOSINGS.get(bytes, e) as u32,
     };
     let amount = EXPOSURE_AMOUNTS.get(bytes, e);
-    if flag(USEDS.get(bytes, e))? {
+    if flag(IN_USE.get(bytes, e))? {
         return Some(Some(Exposure { key, amount }));
     }
     let none = key.giver == 0 && key.taker == 0 && key.basket == 0 && key.closing == 0;

@@ -565,7 +565,7 @@ fn bytes_outside_the_layout_are_not_sound() {
         ("a partner's row of 257", image::PARTNERS, 0, 257),
         ("an end of 2", image::ENDS, 0, 2),
         ("an amount of an exposure not used", image::EXPOSURE_AMOUNTS, 63, 1),
-        ("a use of 2", image::USEDS, 0, 2),
+        ("a use of 2", image::IN_USE, 0, 2),
         ("a price of a security not set up", image::LOTS, 63, 0),
     ];
     let mut damaged: Vec<(&str, Vec<u8>)> = Vec::new();

@@ -85,7 +85,7 @@ class Show(Case):
         for row in sorted((r for r in range(256) if t["numbers"][r]),
                           key=lambda r: t["numbers"][r]):
             fop = t["kinds"][row] == 6
-            amount, settled = t["amounts"][row], t["settleds"][row]
+            amount, settled = t["amounts"][row], t["settledAmounts"][row]
             partner = t["partners"][row]
             state = ("settled" if settled == amount else "ended" if t["ends"][row] else
                      "settled in part" if settled else "paired" if partner else "waits")
@@ -105,7 +105,7 @@ class Show(Case):
         t = self.load_days()
         want, positions = [], []
         for e in range(64):
-            if not t["useds"][e]:
+            if not t["inUse"][e]:
                 continue
             held = [(s, t["positions"][64 * e + s]) for s in range(64) if t["positions"][64 * e + s]]
             value = sum(self.value(t, s, n) for s, n in held)

@@ -14,17 +14,17 @@ ghost use Rattle.rules.specs.Sound.{holding, positionFrom};
 ghost use Rattle.accounts.specs.Accounts.{accountCode, AccountRoom, AccountHolds};
 use book::layout::ACCOUNTS;
 use book::layout::EXPOSURE_GIVERS;
+use book::layout::IN_USE;
 use book::layout::LOTS;
 use book::layout::MODES;
 use book::layout::POSITIONS;
-use book::layout::USEDS;
 
 // The nominal of security i in exposure e, where it is used and the participant's.
 fn position_from(book: &[u8], p: usize, i: usize, e: usize) -> u64
     requires { ⌜ (length (now book) ≡ bookLength) × (i < 64) × (e < 64) ⌝ }
     ensures { λ r. ⌜ (r ≡ positionFrom (state (now (book .entry))) p i e) × (r ≤ 4294967295) ⌝ }
 {
-    if book::get(book, USEDS, e) != 1 {
+    if book::get(book, IN_USE, e) != 1 {
         return 0;
     }
     if book::get(book, EXPOSURE_GIVERS, e) != p as u64 {

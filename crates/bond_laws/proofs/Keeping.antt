@@ -11,7 +11,7 @@ use lib.Dec.{eqb}
 use lib.ListN.{getD}
 use borrow.Author.Tests.{eq-eqb, ne-eqb, le-leb}
 use Rattle.laws.specs.Search.{all}
-use Rattle.book.specs.Layout.{useds, exposureGivers, exposures, accounts, positions}
+use Rattle.book.specs.Layout.{inUse, exposureGivers, exposures, accounts, positions}
 use Rattle.book.specs.State.{State, put, lowered, Fits}
 use Rattle.book.proofs.Images.{put-same, put-apart, put-fits}
 use Rattle.book.proofs.Moves.{raised-other, lowered-other}
@@ -75,16 +75,16 @@ module _ (s t : State) (h : Good s) (r : Restocked s t) where
       }
 
 -- a position in whole lots is sound, where it is none or stands in a used exposure whose amount is not 0
-sound-position : (s : State) (e i : ℕ) → InLots s i (s positions (64 * e + i)) → (s positions (64 * e + i) ≡ 0) ⊎ ((s useds e ≡ 1) × (s exposures e ≡ 0 → ⊥)) → soundPosition s e i ≡ true
+sound-position : (s : State) (e i : ℕ) → InLots s i (s positions (64 * e + i)) → (s positions (64 * e + i) ≡ 0) ⊎ ((s inUse e ≡ 1) × (s exposures e ≡ 0 → ⊥)) → soundPosition s e i ≡ true
 sound-position s e i w (inl z) = position-none s e i z
 sound-position s e i (inl z) (inr a) = position-none s e i z
 sound-position s e i (inr w) (inr a) = position-stocked s e i (record { used = a .0; amount = a .1; known = w .0; whole = w .1 })
 
 -- the giver of a used exposure
-pub giver-below : (s : State) (e : ℕ) → Good s → e < 64 → s useds e ≡ 1 → s exposureGivers e < 32
+pub giver-below : (s : State) (e : ℕ) → Good s → e < 64 → s inUse e ≡ 1 → s exposureGivers e < 32
 giver-below s e h below u = used-exposure s e (h .facts .exposure e below) u .parties .giver-below
 
-module _ (s : State) (e : ℕ) (n : List ℕ) (h : Good s) (below : e < 64) (u : s useds e ≡ 1) where
+module _ (s : State) (e : ℕ) (n : List ℕ) (h : Good s) (below : e < 64) (u : s inUse e ≡ 1) where
   abbrev giver : ℕ
   giver = s exposureGivers e
 
@@ -130,7 +130,7 @@ module _ (s : State) (e : ℕ) (n : List ℕ) (h : Good s) (below : e < 64) (u :
       })
 
 -- another amount: an exposure of amount 0 has no position
-module _ (s : State) (e x : ℕ) (h : Good s) (below : e < 64) (u : s useds e ≡ 1) (small : x ≤ 10000000000000) where
+module _ (s : State) (e x : ℕ) (h : Good s) (below : e < 64) (u : s inUse e ≡ 1) (small : x ≤ 10000000000000) where
   amount-exposure : (d : ℕ) → d < 64 → soundExposure (put s exposures e x) d ≡ true
   unfolding all
   amount-exposure d m =
@@ -163,7 +163,7 @@ giveBack-put s e x n =
     fun-ext (λ f. fun-ext (λ j. elim (ℕ-discrete f exposures) [ yes q ↦ rw q | no q ↦ rw (ne-eqb f exposures q) ]))
 
 -- another amount and bonds back at once, all of them where the amount is 0: between the two the book may not be sound
-pub good-lowered : (s : State) (e x : ℕ) (n : List ℕ) → Good s → e < 64 → s useds e ≡ 1 → x ≤ 10000000000000 → Returnable s e n
+pub good-lowered : (s : State) (e x : ℕ) (n : List ℕ) → Good s → e < 64 → s inUse e ≡ 1 → x ≤ 10000000000000 → Returnable s e n
     → (x ≡ 0 → (i : ℕ) → i < 64 → getD n i 0 ≡ s positions (64 * e + i)) → Good (giveBack (put s exposures e x) e n)
 good-lowered s e x n h below u small r entire =
     rw giveBack-put

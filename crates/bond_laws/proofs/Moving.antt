@@ -10,7 +10,7 @@ use native.Mathlib.Omega.{arith}
 use lib.ListN.{getD}
 use borrow.Author.Tests.{eq-eqb, ne-eqb}
 use Rattle.laws.proofs.Sum.{sum-same, sum-part, sum-one}
-use Rattle.book.specs.Layout.{useds, exposureGivers, accounts, positions}
+use Rattle.book.specs.Layout.{inUse, exposureGivers, accounts, positions}
 use Rattle.book.specs.State.{State, lowered, Raisable, Lowerable, Fits}
 use Rattle.book.proofs.Moves.{raised-at, lowered-at, raised-other, lowered-other, raised-fits, lowered-fits}
 use Rattle.rules.specs.Sound.{holding, positionFrom}
@@ -49,20 +49,20 @@ module _ (s : State) (e : ℕ) (n : List ℕ) where
 
 -- bonds changed places between the account and the position of one exposure
 pub record Exchanged (s t : State) (e : ℕ) : Type 0 where
-  pub used : (d : ℕ) → t useds d ≡ s useds d
+  pub used : (d : ℕ) → t inUse d ≡ s inUse d
   pub giver : (d : ℕ) → t exposureGivers d ≡ s exposureGivers d
   pub account : (p i : ℕ) → (p ≡ s exposureGivers e → ⊥) → i < 64 → t accounts (64 * p + i) ≡ s accounts (64 * p + i)
   pub position : (d i : ℕ) → (d ≡ e → ⊥) → i < 64 → t positions (64 * d + i) ≡ s positions (64 * d + i)
   pub together : (i : ℕ) → i < 64 → t accounts (64 * s exposureGivers e + i) + t positions (64 * e + i) ≡ s accounts (64 * s exposureGivers e + i) + s positions (64 * e + i)
 
 -- a giver's own used exposure, and any other, in the giver's holding
-own-position : (s : State) (p e i : ℕ) → s exposureGivers e ≡ p → s useds e ≡ 1 → positionFrom s p i e ≡ s positions (64 * e + i)
-own-position s p e i g u = rw (eq-eqb (s useds e) 1 u, eq-eqb (s exposureGivers e) p g)
+own-position : (s : State) (p e i : ℕ) → s exposureGivers e ≡ p → s inUse e ≡ 1 → positionFrom s p i e ≡ s positions (64 * e + i)
+own-position s p e i g u = rw (eq-eqb (s inUse e) 1 u, eq-eqb (s exposureGivers e) p g)
 
 no-position : (s : State) (p e i : ℕ) → (p ≡ s exposureGivers e → ⊥) → positionFrom s p i e ≡ 0
 no-position s p e i d = rw (ne-eqb (s exposureGivers e) p (λ q. d (sym q)), and-false)
 
-module _ (s t : State) (e : ℕ) (below : e < 64) (u : s useds e ≡ 1) (x : Exchanged s t e) (i : ℕ) (l : i < 64) where
+module _ (s t : State) (e : ℕ) (below : e < 64) (u : s inUse e ≡ 1) (x : Exchanged s t e) (i : ℕ) (l : i < 64) where
   same-position : (p d : ℕ) → (d ≡ e → ⊥) → positionFrom t p i d ≡ positionFrom s p i d
   same-position p d m = rw (x .used d, x .giver d, x .position d i m l)
 
@@ -106,7 +106,7 @@ module _ (s : State) (e : ℕ) (n : List ℕ) where
     together = λ i l. omega (arith, giveBack-account s e n i l, giveBack-position s e n i l, h .enough i l);
   }
 
-  module _ (below : e < 64) (u : s useds e ≡ 1) where
+  module _ (below : e < 64) (u : s inUse e ≡ 1) where
     -- what each participant holds in all stays
     pub holding-pledge : Lowerable s accounts (64 * s exposureGivers e) n → (p i : ℕ) → p < 32 → i < 64 → holding (pledge s e n) p i ≡ holding s p i
     holding-pledge h p i m l = holding-exchanged s (pledge s e n) e below u (pledge-exchanged h) i l p

@@ -6,7 +6,7 @@ use mathlib.Core.List.{List}
 use Prim.Native.Nat.{ℕ, _+_, _*_, _<_}
 use native.Mathlib.Nat.{le-refl}
 use native.Mathlib.Omega.{arith}
-use Rattle.book.specs.Layout.{useds, exposureGivers, positions}
+use Rattle.book.specs.Layout.{inUse, exposureGivers, positions}
 use Rattle.book.specs.State.{State, Lowerable}
 use Rattle.rules.specs.Stock.{positionOf, pickFor, freeFor}
 use Rattle.facts.proofs.Facts.{Sound}
@@ -18,7 +18,7 @@ use Rattle.bond_laws.proofs.Moving.{pledge-raisable, giveBack-raisable}
 use Rattle.bonds.specs.Moves.{Pledging, GivingBack, Pickable, Freeable}
 
 -- bonds of a used exposure may move, where they are within the row that they leave
-module _ (s : State) (e : ℕ) (by : List ℕ) (f : Sound s) (below : e < 64) (u : s useds e ≡ 1) where
+module _ (s : State) (e : ℕ) (by : List ℕ) (f : Sound s) (below : e < 64) (u : s inUse e ≡ 1) where
   giver-of : s exposureGivers e < 32
   giver-of = used-exposure s e (f .exposure e below) u .parties .giver-below
 
@@ -45,7 +45,7 @@ module _ (s : State) (e : ℕ) where
       }
 
   -- a used exposure of a good book
-  module _ (g : Good s) (l : e < 64) (u : s useds e ≡ 1) where
+  module _ (g : Good s) (l : e < 64) (u : s inUse e ≡ 1) where
     pub good-pickable : Pickable s e
     good-pickable =
         let x = used-exposure s e (g .facts .exposure e l) u in

@@ -7,7 +7,7 @@ use lib.ListN.{getD}
 use Rattle.baskets.specs.declared.Basket.{Basket}
 use Rattle.securities.specs.Position.{nominalsOf, Within}
 use Rattle.securities.specs.Security.{AllInBounds}
-use Rattle.book.specs.Layout.{useds, exposureBaskets, exposures}
+use Rattle.book.specs.Layout.{inUse, exposureBaskets, exposures}
 use Rattle.book.specs.State.{state}
 use Rattle.book.proofs.Images.{state-fits}
 use Rattle.rules.specs.Stock.{basketOf, positionOf}
@@ -33,7 +33,7 @@ module _ {book columns : List ℕ} (m : SoundBook book columns) where
     row-within q = rw q (position-within (state book) facts-of e below)
 
     -- of a used exposure: its basket, its amount
-    module _ {u : ℕ} (q : u ≡ state book useds e) (o : u ≡ 1) where
+    module _ {u : ℕ} (q : u ≡ state book inUse e) (o : u ≡ 1) where
       exposure-of : Exposure (state book) e
       exposure-of = used-exposure (state book) e (facts-of .exposure e below) (sym q ∙ o)
 

@@ -22,7 +22,7 @@ pub fn pledge(book: &mut [u8], e: usize, nominals: &[u64; 64])
     book::raise(book, POSITIONS, 64 * e, nominals);
 }
 
-// And back.
+// Bonds go from the exposure's position back into the giver's account.
 pub fn give_back(book: &mut [u8], e: usize, nominals: &[u64; 64])
     requires { ⌜ (length (now book) ≡ bookLength) × GivingBack (state (now book)) e (now nominals) ⌝ }
     ensures { λ _. ⌜ state (now (book .exit)) ≡ giveBack (state (now (book .entry))) e (now (nominals .entry)) ⌝ }

@@ -118,8 +118,8 @@ abbrev pub references : ℕ
 references = 24
 
 -- the amount settled so far
-abbrev pub settleds : ℕ
-settleds = 25
+abbrev pub settledAmounts : ℕ
+settledAmounts = 25
 
 -- one more than the partner's row, 0 where unpaired
 abbrev pub partners : ℕ
@@ -138,8 +138,8 @@ abbrev pub ends : ℕ
 ends = 29
 
 -- exposures: 1 where the row is used
-abbrev pub useds : ℕ
-useds = 30
+abbrev pub inUse : ℕ
+inUse = 30
 
 -- the giver
 abbrev pub exposureGivers : ℕ

@@ -53,7 +53,7 @@ pub const CLOSINGS: usize = 23;
 
 pub const REFERENCES: usize = 24;
 
-pub const SETTLEDS: usize = 25;
+pub const SETTLED_AMOUNTS: usize = 25;
 
 pub const PARTNERS: usize = 26;
 
@@ -63,7 +63,7 @@ pub const CANCELS: usize = 28;
 
 pub const ENDS: usize = 29;
 
-pub const USEDS: usize = 30;
+pub const IN_USE: usize = 30;
 
 pub const EXPOSURE_GIVERS: usize = 31;
 
@@ -81,8 +81,8 @@ pub const POSITIONS: usize = 37;
 
 pub const SPARES: usize = 38;
 
-// Where a table begins. Tables of one size that follow each other share a line; with a table named by its constant nothing
-// of the chain is left in the code.
+// Where a table begins. Tables of one size that follow each other share a line; where the table
+// is a constant, the compiler removes the comparisons.
 pub fn base_of(f: usize) -> usize
     requires { ⌜ f < tableCount ⌝ }
     ensures { λ r. ⌜ r ≡ baseOf f ⌝ }
@@ -102,17 +102,17 @@ pub fn base_of(f: usize) -> usize
     if f < SETTLEMENTS {
         return 1996 + 1024 * (f - NUMBERS);
     }
-    if f < SETTLEDS {
+    if f < SETTLED_AMOUNTS {
         return 10188 + 1024 * (f - SETTLEMENTS);
     }
     if f < PARTNERS {
         return 14284;
     }
-    if f < USEDS {
+    if f < IN_USE {
         return 16332 + 1024 * (f - PARTNERS);
     }
     if f < ACCOUNTS {
-        return 20428 + 256 * (f - USEDS);
+        return 20428 + 256 * (f - IN_USE);
     }
     if f < SPARES {
         return 22220 + 8192 * (f - ACCOUNTS);

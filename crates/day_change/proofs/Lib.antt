@@ -1,3 +1,3 @@
 pub mod Profiles
 pub mod Stages
-pub mod Ways
+pub mod Returns

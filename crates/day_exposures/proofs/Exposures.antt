@@ -9,7 +9,7 @@ use native.Mathlib.Omega.{arith}
 use lib.Dec.{eqb}
 use borrow.Author.Tests.{eqb-true, eq-eqb, ne-eqb}
 use Rattle.laws.specs.Filled.{filled}
-use Rattle.book.specs.Layout.{useds, exposures, positions}
+use Rattle.book.specs.Layout.{inUse, exposures, positions}
 use Rattle.book.specs.State.{State, Lowerable}
 use Rattle.rules.specs.DayChange.{onEach, isExposureClosed, exposureClosed, isIdle, exposureFreed}
 use Rattle.rules.specs.Sound.{holding}
@@ -37,21 +37,21 @@ sound-closable s f =
     }
 
 -- what is closed is used
-pub closed-used : (s : State) (day e : ℕ) → isExposureClosed s day e ≡ true → s useds e ≡ 1
-closed-used s day e h = eqb-true (s useds e) 1 (split (eqb (s useds e) 1 ∷ _ ∷ []) h .0)
+pub closed-used : (s : State) (day e : ℕ) → isExposureClosed s day e ≡ true → s inUse e ≡ 1
+closed-used s day e h = eqb-true (s inUse e) 1 (split (eqb (s inUse e) 1 ∷ _ ∷ []) h .0)
 
 -- a position can be taken out of itself
 pub entire-lowerable : (s : State) (e : ℕ) → Lowerable s positions (64 * e) (positionOf s e)
 entire-lowerable s e = record { enough = λ i l. omega (arith, position-at s e i l) }
 
 -- a whole position may go back to its giver
-pub entire-back : (s : State) (e : ℕ) {by : List ℕ} → e < 64 → s useds e ≡ 1 → Closable s → by ≡ positionOf s e → GivingBack s e by
+pub entire-back : (s : State) (e : ℕ) {by : List ℕ} → e < 64 → s inUse e ≡ 1 → Closable s → by ≡ positionOf s e → GivingBack s e by
 entire-back s e l u h q =
     let g = h .giver e l u in
     rw q (record { below = l; giver = g; enough = entire-lowerable s e; room = giveBack-raisable s e (positionOf s e) l u g (h .held) (entire-lowerable s e) })
 
 -- an exposure closed: its amount is 0, and its bonds are still its giver's
-module _ (s : State) (e : ℕ) (below : e < 64) (u : s useds e ≡ 1) where
+module _ (s : State) (e : ℕ) (below : e < 64) (u : s inUse e ≡ 1) where
   pub closed-closable : Closable s → Closable (exposureClosed s e)
   unfolding holding
   closed-closable h =
@@ -64,7 +64,7 @@ module _ (s : State) (e : ℕ) (below : e < 64) (u : s useds e ≡ 1) where
 -- while exposures are closed, the next can be
 pub closing-closable : (s : State) (day n : ℕ) → n ≤ 64 → Closable s → Closable (onEach (closesOn day s) exposureClosed n s)
 closing-closable s day n few h =
-    each-keeps (closesOn day s) exposureClosed s (λ t. Closable t × ((e : ℕ) → t useds e ≡ s useds e)) n
+    each-keeps (closesOn day s) exposureClosed s (λ t. Closable t × ((e : ℕ) → t inUse e ≡ s inUse e)) n
     (λ t e l p k. (closed-closable t e (omega arith) (k .1 e ∙ closed-used s day e p) (k .0), k .1))
     (h, λ e. refl) .0
 
@@ -93,10 +93,10 @@ amount-le s day e l h = go (isExposureClosed s day e) (λ q. h .amount e l (clos
     go false k = omega arith
 
 -- an exposure row cleared in its five tables, which have the same rows
-pub in-exposures : (e : ℕ) → e < 64 → InRows 5 useds e
+pub in-exposures : (e : ℕ) → e < 64 → InRows 5 inUse e
 unfolding filled
-in-exposures e l = in-rows 64 useds 5 refl (omega arith) 5 useds e (omega arith) (omega arith) l
+in-exposures e l = in-rows 64 inUse 5 refl (omega arith) 5 inUse e (omega arith) (omega arith) l
 
-pub cleared-exposure : (s : State) (e : ℕ) → cleared s 5 useds e ≡ exposureFreed s e
+pub cleared-exposure : (s : State) (e : ℕ) → cleared s 5 inUse e ≡ exposureFreed s e
 unfolding cleared
 cleared-exposure s e = refl

@@ -1,3 +1,3 @@
 pub mod Exposures
 pub mod Marks
-pub mod Ways
+pub mod Returns

@@ -6,11 +6,11 @@ use mathlib.Core.List.{List}
 use Prim.Native.Nat.{ℕ, _≤_, _<_}
 use lib.ListN.{length, getD}
 use Rattle.laws.specs.Sum.{sum}
-use Rattle.book.specs.Layout.{useds, exposureGivers, exposures}
+use Rattle.book.specs.Layout.{inUse, exposureGivers, exposures}
 use Rattle.book.specs.State.{State}
 use Rattle.rules.specs.DayChange.{isExposureClosed, belongs}
 use Rattle.rules.specs.Sound.{holding}
-use Rattle.exposure_search.specs.Places.{placeOf}
+use Rattle.exposure_search.specs.Slots.{slotOf}
 
 -- the test of an exposure to be closed, at a row of a state
 abbrev pub closesOn : ℕ → State → ℕ → Bool
@@ -25,24 +25,24 @@ amountsClosed s day = sum (amountClosed s day) 64
 
 -- what closing an exposure counts on, and keeps
 pub record Closable (s : State) : Type 0 where
-  pub giver : (e : ℕ) → e < 64 → s useds e ≡ 1 → s exposureGivers e < 32
-  pub amount : (e : ℕ) → e < 64 → s useds e ≡ 1 → s exposures e ≤ 10000000000000
+  pub giver : (e : ℕ) → e < 64 → s inUse e ≡ 1 → s exposureGivers e < 32
+  pub amount : (e : ℕ) → e < 64 → s inUse e ≡ 1 → s exposures e ≤ 10000000000000
   pub held : (p i : ℕ) → p < 32 → i < 64 → holding s p i ≤ 500000000
 
 -- a row does not belong to an exposure
 abbrev pub isNotOf : State → ℕ → ℕ → Bool
 isNotOf s e i = not (belongs s e i)
 
--- a row has the place of the exposure that it belongs to
-pub record Placed (s : State) (i place : ℕ) : Type 0 where
-  pub below : place < 1025
-  pub same : (e : ℕ) → e < 64 → belongs s e i ≡ true → place ≡ placeOf s e
+-- a row has the slot of the exposure that it belongs to
+pub record RowSlot (s : State) (i slot : ℕ) : Type 0 where
+  pub below : slot < 1025
+  pub same : (e : ℕ) → e < 64 → belongs s e i ≡ true → slot ≡ slotOf s e
 
--- the exposures that the rows before i belong to are marked, each at its place
+-- the exposures that the rows before i belong to are marked, each at its slot
 pub record Marked (s : State) (marks : List ℕ) (i : ℕ) : Type 0 where
   pub long : length marks ≡ 1025
-  pub each : (e j : ℕ) → e < 64 → j < i → belongs s e j ≡ true → getD marks (placeOf s e) 0 ≡ 1
+  pub each : (e j : ℕ) → e < 64 → j < i → belongs s e j ≡ true → getD marks (slotOf s e) 0 ≡ 1
 
 -- one exposure is marked, if a row belongs to it
 pub record MarkedFor (s : State) (marks : List ℕ) (e : ℕ) : Type 0 where
-  pub mark : (j : ℕ) → j < 256 → belongs s e j ≡ true → getD marks (placeOf s e) 0 ≡ 1
+  pub mark : (j : ℕ) → j < 256 → belongs s e j ≡ true → getD marks (slotOf s e) 0 ≡ 1

@@ -8,25 +8,25 @@ ghost use Rattle.book.specs.Layout.{bookLength};
 ghost use Rattle.book.specs.State.{state};
 ghost use Rattle.rules.specs.DayChange.{isExposureClosed, exposureClosed, exposuresClosed, belongs, isIdle, exposureFreed, exposuresFreed};
 ghost use Rattle.day_rows.specs.Parts.{tried};
-ghost use Rattle.day_exposures.specs.Parts.{closesOn, amountClosed, amountsClosed, Closable, isNotOf, Placed, Marked, MarkedFor};
+ghost use Rattle.day_exposures.specs.Parts.{closesOn, amountClosed, amountsClosed, Closable, isNotOf, RowSlot, Marked, MarkedFor};
 use book::layout::CLOSINGS;
 use book::layout::EXPOSURE_CLOSINGS;
 use book::layout::EXPOSURES;
 use book::layout::GIVERS;
+use book::layout::IN_USE;
 use book::layout::KINDS;
 use book::layout::NUMBERS;
 use book::layout::OBJECTS;
 use book::layout::PARTNERS;
 use book::layout::POSITIONS;
 use book::layout::TAKERS;
-use book::layout::USEDS;
 
 // Is an exposure used, and its closing date reached?
 fn is_exposure_closed(book: &[u8], day: u64, e: usize) -> bool
     requires { ⌜ (length (now book) ≡ bookLength) × (e < 64) ⌝ }
     ensures { λ r. ⌜ r ≡ isExposureClosed (state (now (book .entry))) day e ⌝ }
 {
-    if book::get(book, USEDS, e) != 1 {
+    if book::get(book, IN_USE, e) != 1 {
         return false;
     }
     day_rows::is_reached(day, book::get(book, EXPOSURE_CLOSINGS, e))
@@ -106,10 +106,10 @@ fn does_none_belong(book: &[u8], e: usize) -> bool
     true
 }
 
-// The place of the exposure that a row belongs to; any place for a row that belongs to none, as 1,024 for one that is not in use.
-fn row_place(book: &[u8], i: usize) -> usize
+// The slot of the exposure that a row belongs to; any slot for a row that belongs to none, as 1,024 for one that is not in use.
+fn row_slot(book: &[u8], i: usize) -> usize
     requires { ⌜ (length (now book) ≡ bookLength) × (i < 256) ⌝ }
-    ensures { λ r. ⌜ Placed (state (now (book .entry))) i r ⌝ }
+    ensures { λ r. ⌜ RowSlot (state (now (book .entry))) i r ⌝ }
 {
     if book::get(book, NUMBERS, i) == 0 {
         return 1024;
@@ -119,9 +119,9 @@ fn row_place(book: &[u8], i: usize) -> usize
         if 64 <= object {
             return 1024;
         }
-        return exposure_search::place_of(book, object as usize);
+        return exposure_search::slot_of(book, object as usize);
     }
-    exposure_search::key_place(
+    exposure_search::key_slot(
         book::get(book, GIVERS, i),
         book::get(book, TAKERS, i),
         object,
@@ -135,7 +135,7 @@ fn is_any_empty(book: &[u8]) -> bool
 {
     let mut e: usize = 0;
     while e < 64 {
-        if book::get(book, USEDS, e) == 1 {
+        if book::get(book, IN_USE, e) == 1 {
             if book::get(book, EXPOSURES, e) == 0 {
                 return true;
             }
@@ -145,7 +145,7 @@ fn is_any_empty(book: &[u8]) -> bool
     false
 }
 
-// Marks the places of the exposures that rows belong to. Where no exposure is empty nobody looks for a mark, and all are left.
+// Marks the slots of the exposures that rows belong to. Where no used exposure has amount 0, no mark is read, and all stay set.
 fn mark_rows(marks: &mut [u8; 1025], book: &[u8])
     requires { ⌜ (length (now book) ≡ bookLength) × (now marks ≡ replicate 1025 1) ⌝ }
     ensures { λ _. ⌜ Marked (state (now (book .entry))) (now (marks .exit)) 256 ⌝ }
@@ -156,25 +156,25 @@ fn mark_rows(marks: &mut [u8; 1025], book: &[u8])
     *marks = [0; 1025];
     let mut i: usize = 0;
     while i < 256 {
-        let place = row_place(book, i);
-        marks[place] = 1;
+        let slot = row_slot(book, i);
+        marks[slot] = 1;
         i += 1;
     }
 }
 
-// Is a used exposure of amount 0, with no row that belongs to it? The rows are looked through only where its place is marked.
+// Is a used exposure of amount 0, with no row that belongs to it? The rows are looked through only where its slot is marked.
 fn is_idle(book: &[u8], marks: &[u8; 1025], e: usize) -> bool
     requires { ⌜ (length (now book) ≡ bookLength) × (e < 64) × MarkedFor (state (now book)) (now marks) e ⌝ }
     ensures { λ r. ⌜ r ≡ isIdle (state (now (book .entry))) e ⌝ }
 {
-    if book::get(book, USEDS, e) != 1 {
+    if book::get(book, IN_USE, e) != 1 {
         return false;
     }
     if book::get(book, EXPOSURES, e) != 0 {
         return false;
     }
-    let place = exposure_search::place_of(book, e);
-    if marks[place] == 0 {
+    let slot = exposure_search::slot_of(book, e);
+    if marks[slot] == 0 {
         return true;
     }
     does_none_belong(book, e)
@@ -186,7 +186,7 @@ fn free_exposure(book: &mut [u8], marks: &[u8; 1025], e: usize)
     ensures { λ _. ⌜ state (now (book .exit)) ≡ tried isIdle exposureFreed (state (now (book .entry))) e ⌝ }
 {
     if is_idle(book, marks, e) {
-        day_rows::clear(book, 5, USEDS, e);
+        day_rows::clear(book, 5, IN_USE, e);
     }
 }
 

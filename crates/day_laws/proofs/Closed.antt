@@ -7,7 +7,7 @@ use Prim.Native.Nat.{ℕ, _≤_, _<_}
 use native.Mathlib.Omega.{arith}
 use lib.Dec.{eqb}
 use borrow.Author.Tests.{eqb-true, eq-eqb, ne-eqb}
-use Rattle.book.specs.Layout.{useds, exposureClosings, exposures}
+use Rattle.book.specs.Layout.{inUse, exposureClosings, exposures}
 use Rattle.book.specs.State.{State}
 use Rattle.rules.specs.DayChange.{onEach, isReached, isExposureClosed, exposureClosed, exposuresClosed}
 use Rattle.rules.specs.Sound.{holding}
@@ -21,7 +21,7 @@ use Rattle.bond_laws.proofs.Moving.{giveBack-position, holding-giveBack}
 use Rattle.day_laws.proofs.Each.{each-keeps, place-ahead, place-passed}
 
 -- one exposure
-module _ (s : State) (g : Good s) (e : ℕ) (l : e < 64) (u : s useds e ≡ 1) where
+module _ (s : State) (g : Good s) (e : ℕ) (l : e < 64) (u : s inUse e ≡ 1) where
   -- a whole position is in whole lots
   pub position-returnable : Returnable s e (positionOf s e)
   position-returnable = record {
@@ -42,7 +42,7 @@ module _ (s : State) (g : Good s) (e : ℕ) (l : e < 64) (u : s useds e ≡ 1) w
 -- what a turn counts on, and keeps: a good book, the same exposures in use with the same closing dates, each participant's bonds
 pub record Closing (s t : State) : Type 0 where
   pub good : Good t
-  pub used : (e : ℕ) → t useds e ≡ s useds e
+  pub used : (e : ℕ) → t inUse e ≡ s inUse e
   pub closing : (e : ℕ) → t exposureClosings e ≡ s exposureClosings e
   pub held : (p i : ℕ) → p < 32 → i < 64 → holding t p i ≡ holding s p i
 
@@ -51,7 +51,7 @@ module _ (s : State) (g : Good s) (day n : ℕ) (few : n ≤ 64) where
   closing-turned =
       each-keeps (isExposureClosed s day) exposureClosed s (Closing s) n
       (λ t e l c k.
-      let u : t useds e ≡ 1 = k .used e ∙ eqb-true (s useds e) 1 (split (eqb (s useds e) 1 ∷ isReached day (s exposureClosings e) ∷ []) c .0) in
+      let u : t inUse e ≡ 1 = k .used e ∙ eqb-true (s inUse e) 1 (split (eqb (s inUse e) 1 ∷ isReached day (s exposureClosings e) ∷ []) c .0) in
       let b : e < 64 = omega arith in
       record {
         good = exposure-closed-good t (k .good) e b u;

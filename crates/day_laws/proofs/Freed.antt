@@ -11,7 +11,7 @@ use borrow.Author.Tests.{eqb-true, eq-eqb, le-ltb, not-true}
 use Rattle.laws.specs.Search.{all}
 use Rattle.laws.proofs.Cases.{either, clash, or-right}
 use Rattle.laws.proofs.Sum.{sum-same}
-use Rattle.book.specs.Layout.{kinds, givers, takers, objects, closings, useds, exposureGivers, exposureTakers, exposureBaskets, exposureClosings, exposures, positions}
+use Rattle.book.specs.Layout.{kinds, givers, takers, objects, closings, inUse, exposureGivers, exposureTakers, exposureBaskets, exposureClosings, exposures, positions}
 use Rattle.book.specs.State.{State}
 use Rattle.rules.specs.DayChange.{onEach, belongs, isIdle, exposureFreed, exposuresFreed}
 use Rattle.rules.specs.Requests.{isUsed, isFop, isReturn, isPaired, hasKey, exposureOfFop}
@@ -30,7 +30,7 @@ one-choice x false = refl
 
 -- the tables of an exposure that is freed, the last first; its amount is 0 already
 abbrev freedTables : List ℕ
-freedTables = exposureClosings ∷ exposureBaskets ∷ exposureTakers ∷ exposureGivers ∷ useds ∷ []
+freedTables = exposureClosings ∷ exposureBaskets ∷ exposureTakers ∷ exposureGivers ∷ inUse ∷ []
 
 -- the state with some exposures freed
 abbrev pub freed : State → (ℕ → Bool) → State
@@ -42,11 +42,11 @@ exposures-turned s n = turns-remade (among freedTables) (λ row f. 0) (isIdle s)
 
 -- what idle says
 module _ (s : State) (e : ℕ) (idle : isIdle s e ≡ true) where
-  clauses : Each (eqb (s useds e) 1 ∷ eqb (s exposures e) 0 ∷ all (λ i. not (belongs s e i)) 256 0 ∷ [])
-  clauses = split (eqb (s useds e) 1 ∷ eqb (s exposures e) 0 ∷ all (λ i. not (belongs s e i)) 256 0 ∷ []) idle
+  clauses : Each (eqb (s inUse e) 1 ∷ eqb (s exposures e) 0 ∷ all (λ i. not (belongs s e i)) 256 0 ∷ [])
+  clauses = split (eqb (s inUse e) 1 ∷ eqb (s exposures e) 0 ∷ all (λ i. not (belongs s e i)) 256 0 ∷ []) idle
 
-  pub idle-used : s useds e ≡ 1
-  idle-used = eqb-true (s useds e) 1 (clauses .0)
+  pub idle-used : s inUse e ≡ 1
+  idle-used = eqb-true (s inUse e) 1 (clauses .0)
 
   pub idle-amount : s exposures e ≡ 0
   idle-amount = eqb-true (s exposures e) 0 (clauses .1 .0)
@@ -135,10 +135,10 @@ module _ (s : State) (h : Sound s) (done : ℕ → Bool) (only : (e : ℕ) → d
       (λ (d : done e ≡ true). rw d)
       (λ (d : done e ≡ false).
       ⊎-elim
-      (λ (z : eqb (s useds e) 0 ≡ true). rw (d, z))
-      (λ (z : eqb (s useds e) 0 ≡ false).
+      (λ (z : eqb (s inUse e) 0 ≡ true). rw (d, z))
+      (λ (z : eqb (s inUse e) 0 ≡ false).
       rw (d, z) (all-of (otherKey (freed s done) e) e 0 (λ c g m. key-other e c d (below (otherKey s e) e (rw z at (h .key e l)) c (omega arith)))))
-      (either (eqb (s useds e) 0)))
+      (either (eqb (s inUse e) 0)))
       (either (done e))
 
   freed-position : (e i : ℕ) → e < 64 → i < 64 → soundPosition (freed s done) e i ≡ true
@@ -152,7 +152,7 @@ module _ (s : State) (h : Sound s) (done : ℕ → Bool) (only : (e : ℕ) → d
   freed-from : (p i e : ℕ) → e < 64 → i < 64 → positionFrom (freed s done) p i e ≡ positionFrom s p i e
   freed-from p i e l m =
       ⊎-elim
-      (λ (d : done e ≡ true). rw (d, idle-position s e (only e d) h l i m) (sym (one-choice 0 (eqb (s useds e) 1 && eqb (s exposureGivers e) p))))
+      (λ (d : done e ≡ true). rw (d, idle-position s e (only e d) h l i m) (sym (one-choice 0 (eqb (s inUse e) 1 && eqb (s exposureGivers e) p))))
       (λ (d : done e ≡ false). rw d)
       (either (done e))
 

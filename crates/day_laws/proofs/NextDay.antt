@@ -7,10 +7,10 @@ use native.Mathlib.Decide.{decLt}
 use native.Mathlib.Omega.{arith}
 use lib.Dec.{eqb}
 use Rattle.calendar.specs.Target.{nextOpenDay}
-use Rattle.book.specs.Layout.{today, useds, exposureClosings, exposures}
+use Rattle.book.specs.Layout.{today, inUse, exposureClosings, exposures}
 use Rattle.book.specs.State.{State, put}
 use Rattle.rules.specs.Codes.{nextDayRules}
-use Rattle.rules.specs.DayChange.{rowsDropped, profilesChanged, isExposureClosed, exposuresClosed, closings12, dayChanged, nextDay}
+use Rattle.rules.specs.DayChange.{rowsDropped, profilesChanged, isExposureClosed, exposuresClosed, closingEvents, dayChanged, nextDay}
 use Rattle.facts.proofs.Sums.{Sums, allNoted}
 use Rattle.rules.specs.Outcome.{lowest}
 use Rattle.rules.specs.Sound.{holding}
@@ -63,8 +63,8 @@ module _ (s : State) (g : Good s) (h : lowest (nextDayRules s) ≡ 0) where
   renewed-beside : (f i : ℕ) → among profileTables f ≡ false → eqb f today ≡ false → among requestTables f ≡ false → renewed f i ≡ s f i
   renewed-beside f i a b c = profiles-changed-beside (put dropped today 0 day) f i a ∙ rw b (rows-dropped-beside s day f i c)
 
-  renewed-used : (e : ℕ) → renewed useds e ≡ s useds e
-  renewed-used e = renewed-beside useds e refl refl refl
+  renewed-used : (e : ℕ) → renewed inUse e ≡ s inUse e
+  renewed-used e = renewed-beside inUse e refl refl refl
 
   -- an exposure has its amount unless it was closed
   pub day-changed-amount : (e : ℕ) → e < 64 → dayChanged s exposures e ≡ cond (isExposureClosed s day e) 0 (s exposures e)
@@ -78,7 +78,7 @@ module _ (s : State) (g : Good s) (h : lowest (nextDayRules s) ≡ 0) where
   parts false x = omega arith
 
   -- "S − R − C": what was closed has left the amount
-  day-changed-amounts : (p : Sums) → Amounts s p → Amounts (dayChanged s) (allNoted p (closings12 s day 64))
+  day-changed-amounts : (p : Sums) → Amounts s p → Amounts (dayChanged s) (allNoted p (closingEvents s day 64))
   day-changed-amounts p a e =
       let settled = told-settled s day p 64 e in
       let returned = told-returned s day p 64 e in

@@ -12,33 +12,33 @@ use borrow.Author.Tests.{eq-eqb, ne-eqb}
 use Rattle.laws.proofs.Cases.{either}
 use Rattle.book.specs.Layout.{exposures}
 use Rattle.book.specs.State.{State}
-use Rattle.rules.specs.DayChange.{isExposureClosed, closings12}
+use Rattle.rules.specs.DayChange.{isExposureClosed, closingEvents}
 use Rattle.facts.proofs.Sums.{Sums, noted, allNoted, noted-append, noted-one}
 use Rattle.rules.specs.Outcome.{closed}
 
 module _ (s : State) (day : ℕ) (p : Sums) where
   -- the paper after the exposures below n
   abbrev told : ℕ → Sums
-  told n = allNoted p (closings12 s day n)
+  told n = allNoted p (closingEvents s day n)
 
   told-closed : (n : ℕ) → isExposureClosed s day n ≡ true → told (suc n) ≡ noted (told n) (closed n (s exposures n))
-  unfolding closings12 allNoted
-  told-closed n e = rw e (noted-one p (closings12 s day n) (closed n (s exposures n)))
+  unfolding closingEvents allNoted
+  told-closed n e = rw e (noted-one p (closingEvents s day n) (closed n (s exposures n)))
 
   told-left : (n : ℕ) → isExposureClosed s day n ≡ false → told (suc n) ≡ told n
-  unfolding closings12 allNoted
-  told-left n e = rw e (noted-append p (closings12 s day n) [])
+  unfolding closingEvents allNoted
+  told-left n e = rw e (noted-append p (closingEvents s day n) [])
 
   -- what was settled in, and what was returned, stays
   pub told-settled : (n e : ℕ) → told n .settledIn e ≡ p .settledIn e
-  unfolding closings12 allNoted
+  unfolding closingEvents allNoted
   told-settled zero e = refl
   told-settled (suc n) e =
       let before = told-settled n e in
       ⊎-elim (λ c. rw (told-closed n c) before) (λ c. rw (told-left n c) before) (either (isExposureClosed s day n))
 
   pub told-returned : (n e : ℕ) → told n .returns e ≡ p .returns e
-  unfolding closings12 allNoted
+  unfolding closingEvents allNoted
   told-returned zero e = refl
   told-returned (suc n) e =
       let before = told-returned n e in
@@ -50,7 +50,7 @@ module _ (s : State) (day : ℕ) (p : Sums) where
     other-told n d = ⊎-elim (λ c. rw (told-closed n c, ne-eqb e n d)) (λ c. rw (told-left n c)) (either (isExposureClosed s day n))
 
     pub told-ahead : (n : ℕ) → n ≤ e → told n .closes e ≡ p .closes e
-    unfolding closings12 allNoted
+    unfolding closingEvents allNoted
     told-ahead zero l = refl
     told-ahead (suc n) l = other-told n (omega arith) ∙ told-ahead n (omega arith)
 

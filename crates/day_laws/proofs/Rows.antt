@@ -10,7 +10,7 @@ use lib.Dec.{eqb, ltb}
 use borrow.Author.Tests.{eqb-false, ne-eqb, lt-ltb, le-ltb, not-true}
 use Rattle.laws.specs.Search.{all}
 use Rattle.laws.proofs.Cases.{either}
-use Rattle.book.specs.Layout.{numbers, kinds, sides, givers, takers, objects, amounts, settlements, closings, references, settleds, partners, pairPartials, cancels, ends}
+use Rattle.book.specs.Layout.{numbers, kinds, sides, givers, takers, objects, amounts, settlements, closings, references, settledAmounts, partners, pairPartials, cancels, ends}
 use Rattle.book.specs.State.{State}
 use Rattle.rules.specs.DayChange.{onEach, isDropped, blanked, rowsDropped}
 use Rattle.rules.specs.Requests.{isUsed, isPaired, partnerOf}
@@ -23,7 +23,7 @@ use Rattle.day_laws.proofs.Remade.{remade, cleared-fits, among, stored-
 -- the tables of a request, the last first
 abbrev pub requestTables : List ℕ
 requestTables =
-    ends ∷ cancels ∷ pairPartials ∷ partners ∷ settleds ∷ references ∷ closings ∷ settlements ∷ amounts ∷ objects ∷ takers ∷ givers ∷ sides ∷ kinds ∷ numbers ∷ []
+    ends ∷ cancels ∷ pairPartials ∷ partners ∷ settledAmounts ∷ references ∷ closings ∷ settlements ∷ amounts ∷ objects ∷ takers ∷ givers ∷ sides ∷ kinds ∷ numbers ∷ []
 
 -- the state without the rows that are done
 abbrev pub without : State → (ℕ → Bool) → State

@@ -1,3 +1,3 @@
 pub mod OnEach
 pub mod Rows
-pub mod Ways
+pub mod Returns

@@ -19,7 +19,7 @@ use book::layout::KINDS;
 use book::layout::NUMBERS;
 use book::layout::OBJECTS;
 use book::layout::PARTNERS;
-use book::layout::SETTLEDS;
+use book::layout::SETTLED_AMOUNTS;
 use book::layout::SETTLEMENTS;
 use book::layout::TODAY;
 
@@ -38,7 +38,7 @@ fn is_done(book: &[u8], today: u64, i: usize) -> bool
     requires { ⌜ (length (now book) ≡ bookLength) × (i < 256) × IsToday (state (now book)) today ⌝ }
     ensures { λ r. ⌜ r ≡ isDone (state (now (book .entry))) i ⌝ }
 {
-    if book::get(book, AMOUNTS, i) <= book::get(book, SETTLEDS, i) {
+    if book::get(book, AMOUNTS, i) <= book::get(book, SETTLED_AMOUNTS, i) {
         return true;
     }
     if book::get(book, ENDS, i) == 1 {

@@ -19,7 +19,7 @@ use Rattle.facts.proofs.Rows.{head-facts, used-fields}
 use Rattle.rules.specs.Requests.{isUsed}
 use Rattle.rules.specs.Settlement.{orderOf, isDue}
 use Rattle.due_pairs.specs.Due.{duePair, noKey, keysOf, Collected, lesserFrom, leastFrom}
-use Rattle.due_pairs.proofs.Ways.{due-by, due-used}
+use Rattle.due_pairs.proofs.Returns.{due-by, due-used}
 
 -- the ways out of `lesser_from`
 module _ (bound least key : ℕ) where

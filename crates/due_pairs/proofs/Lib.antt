@@ -1,3 +1,3 @@
 pub mod Keys
 pub mod Next
-pub mod Ways
+pub mod Returns

@@ -19,7 +19,7 @@ use Rattle.facts.proofs.Searches.{found-by}
 use Rattle.rules.specs.Settlement.{orderOf, isDue, nextDue}
 use Rattle.due_pairs.specs.Due.{duePair, keyOf, noKey, keysOf, Collected, lesserFrom, leastFrom}
 use Rattle.due_pairs.proofs.Keys.{too-low, is-lesser, not-lesser, least-one, due-small}
-use Rattle.due_pairs.proofs.Ways.{due-by}
+use Rattle.due_pairs.proofs.Returns.{due-by}
 
 -- for any test and order: the bound is that of a place in the order, and the least key from it on that of the first row after the place
 module _ (t u : ℕ → Bool) (order : ℕ → ℕ) (last : ℕ) (agree : (i : ℕ) → u i ≡ (t i && ltb last (order i))) (small : (i : ℕ) → i < 256 → t i ≡ true → order i < 72057594037927935) where

@@ -12,7 +12,7 @@ use book::layout::ENDS;
 use book::layout::KINDS;
 use book::layout::NUMBERS;
 use book::layout::PARTNERS;
-use book::layout::SETTLEDS;
+use book::layout::SETTLED_AMOUNTS;
 use book::layout::SETTLEMENTS;
 use book::layout::TODAY;
 
@@ -43,7 +43,7 @@ fn is_due_pair(book: &[u8], i: usize) -> bool
     if book::get(book, ENDS, i) != 0 {
         return false;
     }
-    if book::get(book, AMOUNTS, i) <= book::get(book, SETTLEDS, i) {
+    if book::get(book, AMOUNTS, i) <= book::get(book, SETTLED_AMOUNTS, i) {
         return false;
     }
     if number <= book::get(book, NUMBERS, (partner - 1) as usize) {

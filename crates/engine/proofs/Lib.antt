@@ -1,2 +1,2 @@
 pub mod ByKind
-pub mod Ways
+pub mod Returns

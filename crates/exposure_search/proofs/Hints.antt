@@ -1,4 +1,4 @@
--- What putting hints leaves: a used exposure at its key's place, and the others as they were.
+-- What putting hints leaves: a used exposure at its key's slot, and the others as they were.
 -- Assumes nothing.
 use mathlib.Core.Path.{_≡_, refl}
 use mathlib.Core.List.{List}
@@ -6,12 +6,12 @@ use Prim.Native.Nat.{ℕ, zero, suc, _+_}
 use native.Mathlib.Numerals.{add-one}
 use lib.ListN.{set}
 use borrow.Author.Tests.{eq-eqb, ne-eqb}
-use Rattle.book.specs.Layout.{useds}
+use Rattle.book.specs.Layout.{inUse}
 use Rattle.book.specs.State.{State}
-use Rattle.exposure_search.specs.Places.{placeOf, withHint, withHints}
+use Rattle.exposure_search.specs.Slots.{slotOf, withHint, withHints}
 
-module _ (s : State) (e : ℕ) (hints : List ℕ) {u : ℕ} (uq : u ≡ s useds e) where
-  pub hint-put : {place : ℕ} → u ≡ 1 → place ≡ placeOf s e → set hints place e ≡ withHint s e hints
+module _ (s : State) (e : ℕ) (hints : List ℕ) {u : ℕ} (uq : u ≡ s inUse e) where
+  pub hint-put : {slot : ℕ} → u ≡ 1 → slot ≡ slotOf s e → set hints slot e ≡ withHint s e hints
   hint-put h q = rw (← uq, eq-eqb u 1 h, q)
 
   pub hint-left : (u ≡ 1 → ⊥) → hints ≡ withHint s e hints

@@ -1,4 +1,4 @@
--- What each way out of the search for the exposure with a key shows.
+-- What each return of the search for the exposure with a key shows.
 -- Assumes nothing.
 use mathlib.Core.Path.{_≡_, sym, _∙_}
 use mathlib.Core.Bool.{Bool, true, false, and-false}
@@ -11,14 +11,14 @@ use borrow.Author.Tests.{eq-eqb, ne-eqb, lt-ltb}
 use Rattle.laws.specs.Search.{least}
 use Rattle.laws.proofs.Cases.{either, clash}
 use Rattle.laws.proofs.Least.{least-hit, least-miss}
-use Rattle.book.specs.Layout.{useds, exposureGivers, exposureTakers, exposureBaskets, exposureClosings}
+use Rattle.book.specs.Layout.{inUse, exposureGivers, exposureTakers, exposureBaskets, exposureClosings}
 use Rattle.book.specs.State.{State}
 use Rattle.rules.specs.Requests.{hasKey, exposureWith}
-use Rattle.exposure_search.specs.Keys.{keyPlace}
-use Rattle.exposure_search.specs.Places.{placeOf}
+use Rattle.exposure_search.specs.Keys.{keySlot}
+use Rattle.exposure_search.specs.Slots.{slotOf}
 
 -- a key
-module _ (s : State) (giver taker basket closing e : ℕ) {u : ℕ} (uq : u ≡ s useds e) where
+module _ (s : State) (giver taker basket closing e : ℕ) {u : ℕ} (uq : u ≡ s inUse e) where
   pub key-unused : (u ≡ 1 → ⊥) → false ≡ hasKey s giver taker basket closing e
   key-unused h = rw (← uq, ne-eqb u 1 h)
 
@@ -37,9 +37,9 @@ module _ (s : State) (giver taker basket closing e : ℕ) {u : ℕ} (uq : u ≡ 
         pub by-key-closing : {c : ℕ} → b ≡ basket → c ≡ s exposureClosings e → eqb c closing ≡ hasKey s giver taker basket closing e
         by-key-closing h cq = rw (← uq, eq-eqb u 1 used, ← gq, eq-eqb g giver gh, ← tq, eq-eqb t taker th, ← bq, eq-eqb b basket h, ← cq)
 
--- the place by what was read
-pub place-read : (s : State) (e : ℕ) {r g t b c : ℕ} → g ≡ s exposureGivers e → t ≡ s exposureTakers e → b ≡ s exposureBaskets e → c ≡ s exposureClosings e → r ≡ keyPlace g t b c → r ≡ placeOf s e
-place-read s e gq tq bq cq q = rw (← gq, ← tq, ← bq, ← cq) q
+-- the slot by what was read
+pub slot-read : (s : State) (e : ℕ) {r g t b c : ℕ} → g ≡ s exposureGivers e → t ≡ s exposureTakers e → b ≡ s exposureBaskets e → c ≡ s exposureClosings e → r ≡ keySlot g t b c → r ≡ slotOf s e
+slot-read s e gq tq bq cq q = rw (← gq, ← tq, ← bq, ← cq) q
 
 -- a test that holds at a number finds one that is no higher
 least-found : (t : ℕ → Bool) (n i j : ℕ) → t j ≡ true → i ≤ j → j < i + n → least t n i ≤ j

@@ -12,7 +12,7 @@ use Rattle.laws.specs.Search.{all}
 use Rattle.laws.proofs.Cases.{either, clash, or-cases}
 use Rattle.laws.proofs.Least.{all-at}
 use Rattle.calendar.specs.Target.{openDay}
-use Rattle.book.specs.Layout.{today, tolerance, nextNumber, lots, modes, maps, numbers, kinds, sides, givers, takers, objects, amounts, settlements, closings, settleds, partners, pairPartials, cancels, ends, useds, exposureGivers, exposureTakers, exposureBaskets, exposureClosings, exposures, positions, spares}
+use Rattle.book.specs.Layout.{today, tolerance, nextNumber, lots, modes, maps, numbers, kinds, sides, givers, takers, objects, amounts, settlements, closings, settledAmounts, partners, pairPartials, cancels, ends, inUse, exposureGivers, exposureTakers, exposureBaskets, exposureClosings, exposures, positions, spares}
 use Rattle.book.specs.State.{State}
 use Rattle.rules.specs.Requests.{isUsed, isFop, isReturn, isPaired, partnerOf, exposureOfFop}
 use Rattle.rules.specs.Sound.{between, openOrNone, soundHead, soundSecurity, soundParticipant, soundBasket, soundParties, basketNamed, returnNames, soundFop, soundReturn, soundKind, soundMarks, soundFields, same, alike, blank, marksAlike, soundPair, soundPaired, soundUnpaired, blankRow, soundRow, distinctNumber, soundExposure, distinctKey, soundPosition, holding, soundHolding, soundPositions, soundHoldings, isSpare, soundSetUp, soundRequests, soundExposures, sound}

@@ -12,7 +12,7 @@ use Rattle.laws.specs.Search.{all}
 use Rattle.laws.proofs.Cases.{either, clash, or-cases}
 use Rattle.laws.proofs.Least.{all-at, all-hit, all-none}
 use Rattle.calendar.specs.Target.{openDay}
-use Rattle.book.specs.Layout.{today, tolerance, nextNumber, lots, numbers, kinds, sides, givers, takers, objects, amounts, settlements, closings, references, settleds, partners, pairPartials, cancels, ends, useds, exposureGivers, exposureTakers, exposureBaskets, exposureClosings, exposures, accounts, positions}
+use Rattle.book.specs.Layout.{today, tolerance, nextNumber, lots, numbers, kinds, sides, givers, takers, objects, amounts, settlements, closings, references, settledAmounts, partners, pairPartials, cancels, ends, inUse, exposureGivers, exposureTakers, exposureBaskets, exposureClosings, exposures, accounts, positions}
 use Rattle.book.specs.State.{State}
 use Rattle.rules.specs.Requests.{isUsed, isFop, isReturn, isPaired, partnerOf, exposureOfFop}
 use Rattle.rules.specs.Sound.{between, openOrNone, soundHead, soundParties, basketNamed, returnNames, soundFop, soundReturn, soundKind, soundMarks, soundFields, same, alike, blank, marksAlike, soundPair, soundPaired, soundUnpaired, blankRow, soundRow, soundExposure, soundPosition}
@@ -46,7 +46,7 @@ pub record Fop (s : State) (i : ℕ) : Type 0 where
 
 pub record Return (s : State) (i : ℕ) : Type 0 where
   pub exposure-below : s objects i < 64
-  pub exposure-used : s useds (s objects i) ≡ 1
+  pub exposure-used : s inUse (s objects i) ≡ 1
   pub giver : s exposureGivers (s objects i) ≡ s givers i
   pub taker : s exposureTakers (s objects i) ≡ s takers i
   pub amount-low : 1 ≤ s amounts i
@@ -64,7 +64,7 @@ pub record Fields (s : State) (i : ℕ) : Type 0 where
   pub parties : Parties s (s givers i) (s takers i)
   pub kind : Kind s i
   pub settlement : openDay (s settlements i) ≡ true
-  pub settled : s settleds i ≤ s amounts i
+  pub settled : s settledAmounts i ≤ s amounts i
   pub partial : s pairPartials i ≤ 1
   pub cancel : s cancels i ≤ 1
   pub end : s ends i ≤ 1
@@ -81,7 +81,7 @@ pub record Pair (s : State) (i j : ℕ) : Type 0 where
   pub amount : s amounts i ≡ s amounts j
   pub settlement : s settlements i ≡ s settlements j
   pub closing : s closings i ≡ s closings j
-  pub settled : s settleds i ≡ s settleds j
+  pub settled : s settledAmounts i ≡ s settledAmounts j
   pub end : s ends i ≡ s ends j
   pub partial : s pairPartials i ≡ s pairPartials j
 
@@ -91,7 +91,7 @@ pub record Paired (s : State) (i : ℕ) : Type 0 where
   pub belongs : (isReturn s i ≡ true) ⊎ (exposureOfFop s i < 64)
 
 pub record Unpaired (s : State) (i : ℕ) : Type 0 where
-  pub settled : s settleds i ≡ 0
+  pub settled : s settledAmounts i ≡ 0
   pub partial : s pairPartials i ≡ 0
 
 -- a used exposure
@@ -112,7 +112,7 @@ pub record NoExposure (s : State) (e : ℕ) : Type 0 where
 
 -- a position that is not 0
 pub record Stocked (s : State) (e i : ℕ) : Type 0 where
-  pub used : s useds e ≡ 1
+  pub used : s inUse e ≡ 1
   pub amount : s exposures e ≡ 0 → ⊥
   pub known : securitySetUp s i ≡ true
   pub whole : s positions (64 * e + i) % s lots i ≡ 0
@@ -165,11 +165,11 @@ module _ (s : State) where
     return-facts h =
         let o = s objects i in
         let t = split (returnNames s i ∷ between 1 1000000000000 (s amounts i) ∷ eqb (s closings i) 0 ∷ []) h in
-        let n = split (ltb o 64 ∷ eqb (s useds o) 1 ∷ eqb (s exposureGivers o) (s givers i) ∷ eqb (s exposureTakers o) (s takers i) ∷ []) (t .0) in
+        let n = split (ltb o 64 ∷ eqb (s inUse o) 1 ∷ eqb (s exposureGivers o) (s givers i) ∷ eqb (s exposureTakers o) (s takers i) ∷ []) (t .0) in
         let a = between-facts 1 1000000000000 (s amounts i) (t .1 .0) in
         record {
           exposure-below = ltb-true o 64 (n .0);
-          exposure-used = eqb-true (s useds o) 1 (n .1 .0);
+          exposure-used = eqb-true (s inUse o) 1 (n .1 .0);
           giver = eqb-true (s exposureGivers o) (s givers i) (n .1 .1 .0);
           taker = eqb-true (s exposureTakers o) (s takers i) (n .1 .1 .1);
           amount-low = a .0;
@@ -181,8 +181,8 @@ module _ (s : State) where
     facts-return r =
         let o = s objects i in
         join (returnNames s i ∷ between 1 1000000000000 (s amounts i) ∷ eqb (s closings i) 0 ∷ []) (
-          join (ltb o 64 ∷ eqb (s useds o) 1 ∷ eqb (s exposureGivers o) (s givers i) ∷ eqb (s exposureTakers o) (s takers i) ∷ [])
-              (lt-ltb o 64 (r .exposure-below), (eq-eqb (s useds o) 1 (r .exposure-used), (eq-eqb (s exposureGivers o) (s givers i) (r .giver), eq-eqb (s exposureTakers o) (s takers i) (r .taker)))),
+          join (ltb o 64 ∷ eqb (s inUse o) 1 ∷ eqb (s exposureGivers o) (s givers i) ∷ eqb (s exposureTakers o) (s takers i) ∷ [])
+              (lt-ltb o 64 (r .exposure-below), (eq-eqb (s inUse o) 1 (r .exposure-used), (eq-eqb (s exposureGivers o) (s givers i) (r .giver), eq-eqb (s exposureTakers o) (s takers i) (r .taker)))),
           (facts-between 1 1000000000000 (s amounts i) (r .amount-low, r .amount-high), eq-eqb (s closings i) 0 (r .closing)),
         )
 
@@ -200,14 +200,14 @@ module _ (s : State) where
     fields-facts : soundFields s i ≡ true → Fields s i
     fields-facts h =
         let t = split (ltb (s numbers i) (s nextNumber 0) ∷ leb (s sides i) 1 ∷ soundParties s (s givers i) (s takers i) ∷ soundKind s i ∷ openDay (s settlements i) ∷ soundMarks s i ∷ []) h in
-        let m = split (leb (s settleds i) (s amounts i) ∷ leb (s pairPartials i) 1 ∷ leb (s cancels i) 1 ∷ leb (s ends i) 1 ∷ []) (t .1 .1 .1 .1 .1) in
+        let m = split (leb (s settledAmounts i) (s amounts i) ∷ leb (s pairPartials i) 1 ∷ leb (s cancels i) 1 ∷ leb (s ends i) 1 ∷ []) (t .1 .1 .1 .1 .1) in
         record {
           number-below = ltb-true (s numbers i) (s nextNumber 0) (t .0);
           side = leb-true (s sides i) 1 (t .1 .0);
           parties = parties-facts (s givers i) (s takers i) (t .1 .1 .0);
           kind = kind-facts (t .1 .1 .1 .0);
           settlement = t .1 .1 .1 .1 .0;
-          settled = leb-true (s settleds i) (s amounts i) (m .0);
+          settled = leb-true (s settledAmounts i) (s amounts i) (m .0);
           partial = leb-true (s pairPartials i) 1 (m .1 .0);
           cancel = leb-true (s cancels i) 1 (m .1 .1 .0);
           end = leb-true (s ends i) 1 (m .1 .1 .1);
@@ -225,8 +225,8 @@ module _ (s : State) where
                 facts-kind (f .kind),
                 (
                   f .settlement,
-                  join (leb (s settleds i) (s amounts i) ∷ leb (s pairPartials i) 1 ∷ leb (s cancels i) 1 ∷ leb (s ends i) 1 ∷ [])
-                      (le-leb (s settleds i) (s amounts i) (f .settled), (le-leb (s pairPartials i) 1 (f .partial), (le-leb (s cancels i) 1 (f .cancel), le-leb (s ends i) 1 (f .end)))),
+                  join (leb (s settledAmounts i) (s amounts i) ∷ leb (s pairPartials i) 1 ∷ leb (s cancels i) 1 ∷ leb (s ends i) 1 ∷ [])
+                      (le-leb (s settledAmounts i) (s amounts i) (f .settled), (le-leb (s pairPartials i) 1 (f .partial), (le-leb (s cancels i) 1 (f .cancel), le-leb (s ends i) 1 (f .end)))),
                 ),
               ),
             ),
@@ -237,7 +237,7 @@ module _ (s : State) where
     pair-facts j h =
         let t = split (ltb j 256 ∷ eqb (s partners j) (i + 1) ∷ eqb (s sides i + s sides j) 1 ∷ same s kinds i j ∷ alike s 6 givers i j ∷ marksAlike s i j ∷ []) h in
         let at : (f : ℕ) → givers ≤ f → f < givers + 6 → s f i ≡ s f j = λ f g l. eqb-true (s f i) (s f j) (all-at (λ f. same s f i j) 6 givers (t .1 .1 .1 .1 .0) f g l) in
-        let m = split (same s settleds i j ∷ same s ends i j ∷ same s pairPartials i j ∷ []) (t .1 .1 .1 .1 .1) in
+        let m = split (same s settledAmounts i j ∷ same s ends i j ∷ same s pairPartials i j ∷ []) (t .1 .1 .1 .1 .1) in
         record {
           partner-below = ltb-true j 256 (t .0);
           named = eqb-true (s partners j) (i + 1) (t .1 .0);
@@ -249,7 +249,7 @@ module _ (s : State) where
           amount = at amounts (omega arith) (omega arith);
           settlement = at settlements (omega arith) (omega arith);
           closing = at closings (omega arith) (omega arith);
-          settled = eqb-true (s settleds i) (s settleds j) (m .0);
+          settled = eqb-true (s settledAmounts i) (s settledAmounts j) (m .0);
           end = eqb-true (s ends i) (s ends j) (m .1 .0);
           partial = eqb-true (s pairPartials i) (s pairPartials j) (m .1 .1);
         }
@@ -278,8 +278,8 @@ module _ (s : State) where
                 eq-eqb (s kinds i) (s kinds j) (p .kind),
                 (
                   alike-of j p,
-                  join (same s settleds i j ∷ same s ends i j ∷ same s pairPartials i j ∷ [])
-                      (eq-eqb (s settleds i) (s settleds j) (p .settled), (eq-eqb (s ends i) (s ends j) (p .end), eq-eqb (s pairPartials i) (s pairPartials j) (p .partial))),
+                  join (same s settledAmounts i j ∷ same s ends i j ∷ same s pairPartials i j ∷ [])
+                      (eq-eqb (s settledAmounts i) (s settledAmounts j) (p .settled), (eq-eqb (s ends i) (s ends j) (p .end), eq-eqb (s pairPartials i) (s pairPartials j) (p .partial))),
                 ),
               ),
             ),
@@ -304,8 +304,8 @@ module _ (s : State) where
 
     unpaired-facts : soundUnpaired s i ≡ true → Unpaired s i
     unpaired-facts h =
-        let t = split (eqb (s settleds i) 0 ∷ eqb (s pairPartials i) 0 ∷ []) h in
-        record { settled = eqb-true (s settleds i) 0 (t .0); partial = eqb-true (s pairPartials i) 0 (t .1) }
+        let t = split (eqb (s settledAmounts i) 0 ∷ eqb (s pairPartials i) 0 ∷ []) h in
+        record { settled = eqb-true (s settledAmounts i) 0 (t .0); partial = eqb-true (s pairPartials i) 0 (t .1) }
 
     facts-unpaired : Unpaired s i → soundUnpaired s i ≡ true
     facts-unpaired u = rw (u .settled, u .partial)
@@ -342,7 +342,7 @@ module _ (s : State) where
 
   module _ (e : ℕ) where
     -- an exposure is used or not
-    pub used-exposure : soundExposure s e ≡ true → s useds e ≡ 1 → Exposure s e
+    pub used-exposure : soundExposure s e ≡ true → s inUse e ≡ 1 → Exposure s e
     used-exposure h u =
         let t = split (soundParties s (s exposureGivers e) (s exposureTakers e) ∷ basketNamed s (s exposureBaskets e) ∷ openOrNone (s exposureClosings e) ∷ leb (s exposures e) 10000000000000 ∷ []) (rw u at h) in
         let b = split (ltb (s exposureBaskets e) 16 ∷ basketSetUp s (s exposureBaskets e) ∷ []) (t .1 .0) in
@@ -354,7 +354,7 @@ module _ (s : State) where
           amount = leb-true (s exposures e) 10000000000000 (t .1 .1 .1);
         }
 
-    pub exposure-sound : s useds e ≡ 1 → Exposure s e → soundExposure s e ≡ true
+    pub exposure-sound : s inUse e ≡ 1 → Exposure s e → soundExposure s e ≡ true
     exposure-sound u x =
         rw u
         (join (soundParties s (s exposureGivers e) (s exposureTakers e) ∷ basketNamed s (s exposureBaskets e) ∷ openOrNone (s exposureClosings e) ∷ leb (s exposures e) 10000000000000 ∷ []) (
@@ -365,7 +365,7 @@ module _ (s : State) where
           ),
         ))
 
-    pub no-exposure : soundExposure s e ≡ true → s useds e ≡ 0 → NoExposure s e
+    pub no-exposure : soundExposure s e ≡ true → s inUse e ≡ 0 → NoExposure s e
     no-exposure h u =
         let at : (f : ℕ) → exposureGivers ≤ f → f < exposureGivers + 5 → s f e ≡ 0 = λ f g l. eqb-true (s f e) 0 (all-at (λ f. eqb (s f e) 0) 5 exposureGivers (rw u at h) f g l) in
         record {
@@ -376,7 +376,7 @@ module _ (s : State) where
           amount = at exposures (omega arith) (omega arith);
         }
 
-    pub no-exposure-sound : s useds e ≡ 0 → NoExposure s e → soundExposure s e ≡ true
+    pub no-exposure-sound : s inUse e ≡ 0 → NoExposure s e → soundExposure s e ≡ true
     no-exposure-sound u x =
         let t : ℕ → Bool = λ f. eqb (s f e) 0 in
         rw u
@@ -387,12 +387,12 @@ module _ (s : State) where
         ∙ all-hit t 0 exposures (eq-eqb (s exposures e) 0 (x .amount))
         ∙ all-none t accounts)
 
-    pub used-or-not : soundExposure s e ≡ true → (s useds e ≡ 0) ⊎ (s useds e ≡ 1)
+    pub used-or-not : soundExposure s e ≡ true → (s inUse e ≡ 0) ⊎ (s inUse e ≡ 1)
     used-or-not h =
         ⊎-elim
-        (λ z. inl (eqb-true (s useds e) 0 z))
-        (λ z. let t = split (eqb (s useds e) 1 ∷ soundParties s (s exposureGivers e) (s exposureTakers e) ∷ basketNamed s (s exposureBaskets e) ∷ openOrNone (s exposureClosings e) ∷ leb (s exposures e) 10000000000000 ∷ []) (rw z at h) in inr (eqb-true (s useds e) 1 (t .0)))
-        (either (eqb (s useds e) 0))
+        (λ z. inl (eqb-true (s inUse e) 0 z))
+        (λ z. let t = split (eqb (s inUse e) 1 ∷ soundParties s (s exposureGivers e) (s exposureTakers e) ∷ basketNamed s (s exposureBaskets e) ∷ openOrNone (s exposureClosings e) ∷ leb (s exposures e) 10000000000000 ∷ []) (rw z at h) in inr (eqb-true (s inUse e) 1 (t .0)))
+        (either (eqb (s inUse e) 0))
 
     -- a position is 0 or stocked
     pub position-facts : (i : ℕ) → soundPosition s e i ≡ true → (s positions (64 * e + i) ≡ 0) ⊎ Stocked s e i
@@ -400,14 +400,14 @@ module _ (s : State) where
         let x = s positions (64 * e + i) in
         ⊎-elim
         (λ z. inl (eqb-true x 0 z))
-        (λ z. let t = split (eqb (s useds e) 1 ∷ not (eqb (s exposures e) 0) ∷ securitySetUp s i ∷ eqb (x % s lots i) 0 ∷ []) z in
+        (λ z. let t = split (eqb (s inUse e) 1 ∷ not (eqb (s exposures e) 0) ∷ securitySetUp s i ∷ eqb (x % s lots i) 0 ∷ []) z in
         inr (record {
-          used = eqb-true (s useds e) 1 (t .0);
+          used = eqb-true (s inUse e) 1 (t .0);
           amount = eqb-false (s exposures e) 0 (not-true (eqb (s exposures e) 0) (t .1 .0));
           known = t .1 .1 .0;
           whole = eqb-true (x % s lots i) 0 (t .1 .1 .1);
         }))
-        (or-cases (eqb x 0) (eqb (s useds e) 1 && (not (eqb (s exposures e) 0) && (securitySetUp s i && eqb (x % s lots i) 0))) h)
+        (or-cases (eqb x 0) (eqb (s inUse e) 1 && (not (eqb (s exposures e) 0) && (securitySetUp s i && eqb (x % s lots i) 0))) h)
 
     pub position-none : (i : ℕ) → s positions (64 * e + i) ≡ 0 → soundPosition s e i ≡ true
     position-none i z = rw z
@@ -415,6 +415,6 @@ module _ (s : State) where
     pub position-stocked : (i : ℕ) → Stocked s e i → soundPosition s e i ≡ true
     position-stocked i k =
         let x = s positions (64 * e + i) in
-        let rest = join (eqb (s useds e) 1 ∷ not (eqb (s exposures e) 0) ∷ securitySetUp s i ∷ eqb (x % s lots i) 0 ∷ [])
-        (eq-eqb (s useds e) 1 (k .used), (rw (ne-eqb (s exposures e) 0 (k .amount)), (k .known, eq-eqb (x % s lots i) 0 (k .whole)))) in
+        let rest = join (eqb (s inUse e) 1 ∷ not (eqb (s exposures e) 0) ∷ securitySetUp s i ∷ eqb (x % s lots i) 0 ∷ [])
+        (eq-eqb (s inUse e) 1 (k .used), (rw (ne-eqb (s exposures e) 0 (k .amount)), (k .known, eq-eqb (x % s lots i) 0 (k .whole)))) in
         rw (rest, or-true)

@@ -19,7 +19,7 @@ use Rattle.calendar.specs.Target.{openDay}
 use Rattle.calendar.proofs.OpenDays.{open-within}
 use Rattle.securities.specs.Security.{securityAt, InBounds, AllInBounds}
 use Rattle.securities.specs.Position.{Within, nominalsOf}
-use Rattle.book.specs.Layout.{today, lots, prices, haircuts, quotes, ages, maps, useds, exposureGivers, accounts, positions}
+use Rattle.book.specs.Layout.{today, lots, prices, haircuts, quotes, ages, maps, inUse, exposureGivers, accounts, positions}
 use Rattle.book.specs.State.{State, columnsOf, rowAt}
 use Rattle.rules.specs.Sound.{between, soundSecurity, soundBasket, holding, positionFrom}
 use Rattle.rules.specs.Stock.{securitySetUp, basketSetUp, accountOf, positionOf}
@@ -113,7 +113,7 @@ module _ (s : State) where
         (λ k.
         let p = s exposureGivers e in
         let g = used-exposure s e (f .exposure e h) (k .used) .parties .giver-below in
-        let own : positionFrom s p i e ≡ s positions (64 * e + i) = rw (eq-eqb (s useds e) 1 (k .used), eq-eqb p p refl) in
+        let own : positionFrom s p i e ≡ s positions (64 * e + i) = rw (eq-eqb (s inUse e) 1 (k .used), eq-eqb p p refl) in
         omega (arith, f .held p i g l, sum-part (positionFrom s p i) e 64 h, own))
         (position-facts s e i (f .position e i h l))
 

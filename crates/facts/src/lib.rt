@@ -1,1 +1,1 @@
-// What soundness is worth to proofs: the sentence's clauses as facts, both ways. There is no code here.
+// Soundness as facts: each clause of the sentence, from the test and back. There is no code here.

@@ -18,7 +18,7 @@ use Rattle.record_kinds.specs.Kinds.{kinds, offsetOf, inRange}
 use Rattle.records.specs.Reading.{read, taken}
 use Rattle.records.specs.Writing.{areLegal, imageTo, writeCode, written}
 use Rattle.records.proofs.RoundTrip.{reads-back}
-use Rattle.records.proofs.Ways.{write-legal}
+use Rattle.records.proofs.Returns.{write-legal}
 use Rattle.book.specs.Layout.{bookLength}
 use Rattle.book.specs.State.{State, state}
 use Rattle.rules.specs.Call.{recordCode, callCode}

@@ -8,7 +8,7 @@ use lib.Dec.{eqb}
 use lib.ListN.{length, replicate}
 use Rattle.laws.specs.Numbers.{bytesOf}
 use Rattle.calendar.specs.Target.{openDay}
-use Rattle.book.specs.Layout.{bookLength, useds, exposureGivers, exposureTakers, exposureBaskets, exposureClosings, exposures}
+use Rattle.book.specs.Layout.{bookLength, inUse, exposureGivers, exposureTakers, exposureBaskets, exposureClosings, exposures}
 use Rattle.book.specs.State.{State, state}
 use Rattle.records.specs.Reading.{read}
 use Rattle.rules.specs.Call.{stepOf, recordCode, opens, callCode, callBook}
@@ -170,7 +170,7 @@ pub record Agrees (s : State) (p : Paper) : Type 0 where
   pub bonds : (q i : ℕ) → q < 32 → i < 64 → holding s q i ≡ p .deposits q i - p .withdrawals q i
   pub withdrawn-within : (q i : ℕ) → q < 32 → i < 64 → p .withdrawals q i ≤ p .deposits q i
   -- "The exposures in use are exactly those of document 01's ledger, in the same rows and under the same keys"
-  pub rows : (e : ℕ) → e < 64 → s useds e ≡ p .steps useds e
+  pub rows : (e : ℕ) → e < 64 → s inUse e ≡ p .steps inUse e
   pub givers : (e : ℕ) → e < 64 → s exposureGivers e ≡ p .steps exposureGivers e
   pub takers : (e : ℕ) → e < 64 → s exposureTakers e ≡ p .steps exposureTakers e
   pub baskets : (e : ℕ) → e < 64 → s exposureBaskets e ≡ p .steps exposureBaskets e

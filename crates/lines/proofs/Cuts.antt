@@ -1,4 +1,4 @@
--- What each way out of the functions that cut the input into records shows.
+-- What each return of the functions that cut the input into records shows.
 -- Assumes nothing.
 use mathlib.Core.Path.{_≡_, refl, ap}
 use mathlib.Core.Bool.{true}

@@ -2,4 +2,4 @@ pub mod Moving
 pub mod Passable
 pub mod Steps
 pub mod Values
-pub mod Ways
+pub mod Returns

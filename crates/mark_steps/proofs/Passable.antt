@@ -4,7 +4,7 @@ use mathlib.Core.Path.{_≡_, sym, _∙_}
 use mathlib.Core.List.{List}
 use Prim.Native.Nat.{ℕ, _<_}
 use lib.ListN.{length, getD}
-use Rattle.book.specs.Layout.{bookLength, useds}
+use Rattle.book.specs.Layout.{bookLength, inUse}
 use Rattle.book.specs.State.{State, state}
 use Rattle.bonds.specs.Moves.{SoundBook}
 use Rattle.bonds.proofs.Rows.{good-of}
@@ -19,7 +19,7 @@ use Rattle.mark_steps.specs.Stepped.{Stepped, bit}
 
 pub record Passable (step : State → ℕ → State) : Type 0 where
   pub local : Local step
-  pub keep : (t : State) (e : ℕ) → Good t → e < 64 → t useds e ≡ 1 → Kept t (step t e)
+  pub keep : (t : State) (e : ℕ) → Good t → e < 64 → t inUse e ≡ 1 → Kept t (step t e)
 
 pub first-pass : Passable ineligibleBack
 first-pass = record { local = own-ineligible; keep = kept-ineligible }

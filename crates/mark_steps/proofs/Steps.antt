@@ -19,7 +19,7 @@ use Rattle.picking.specs.Free.{freed}
 use Rattle.picking.specs.declared.Freed.{Freed}
 use Rattle.picking.specs.declared.Outcome.{Outcome}
 use Rattle.securities.specs.Position.{worth, nominalsOf}
-use Rattle.book.specs.Layout.{bookLength, today, useds, exposures, positions}
+use Rattle.book.specs.Layout.{bookLength, today, inUse, exposures, positions}
 use Rattle.book.specs.State.{State, state, columnsOf}
 use Rattle.bonds.specs.Moves.{SoundBook, Pledging, GivingBack}
 use Rattle.bonds.proofs.Ready.{gives-back, pledges}
@@ -37,22 +37,22 @@ use Rattle.mark_steps.specs.Stepped.{Stepped, bit, ineligibleIn, mayStay
 use Rattle.mark_steps.proofs.Moving.{none-back, some-back}
 use Rattle.mark_steps.proofs.Passable.{Passable, first-pass, second-pass, third-pass, stepped-on}
 use Rattle.mark_steps.proofs.Values.{value-freed, missing-used, lacking-used, lacking-is}
-use Rattle.mark_steps.proofs.Ways.{all-stay}
+use Rattle.mark_steps.proofs.Returns.{all-stay}
 
 -- what a step that moved bonds, or none, leaves
 abbrev pub Moved : (State → ℕ → List ℕ → State) → List ℕ → List ℕ → ℕ → List ℕ → ℕ → Type 0
 Moved move before after e nominals r = (state after ≡ move (state before) e nominals) × (r ≡ bit (moved (state before) (state after) e))
 
 module _ {book columns : List ℕ} {e : ℕ} (m : SoundBook book columns) where
-  pub unused-step : {u : ℕ} (step : State → ℕ → State) → u ≡ state book useds e → (u ≡ 1 → ⊥) → Stepped step columns book book e 0
-  unused-step step q n = record { book = m; stepped = rw (ne-eqb (state book useds e) 1 (rw q at n)); flag-is = rw (moved-none (state book) e) }
+  pub unused-step : {u : ℕ} (step : State → ℕ → State) → u ≡ state book inUse e → (u ≡ 1 → ⊥) → Stepped step columns book book e 0
+  unused-step step q n = record { book = m; stepped = rw (ne-eqb (state book inUse e) 1 (rw q at n)); flag-is = rw (moved-none (state book) e) }
 
   module _ (below : e < 64) (small : (i : ℕ) → getD book i 0 < 256) where
-    used-step : {step : State → ℕ → State} {after : List ℕ} {r : ℕ} → Passable step → state book useds e ≡ 1 → length after ≡ bookLength → state after ≡ step (state book) e
+    used-step : {step : State → ℕ → State} {after : List ℕ} {r : ℕ} → Passable step → state book inUse e ≡ 1 → length after ≡ bookLength → state after ≡ step (state book) e
         → r ≡ bit (moved (state book) (state after) e) → Stepped step columns book after e r
-    used-step p o l s k = stepped-on p m small below l (rw (eq-eqb (state book useds e) 1 o) s) k
+    used-step p o l s k = stepped-on p m small below l (rw (eq-eqb (state book inUse e) 1 o) s) k
 
-    module _ {u : ℕ} (q : u ≡ state book useds e) (o : u ≡ 1) {position : List ℕ} (p : position ≡ positionOf (state book) e) where
+    module _ {u : ℕ} (q : u ≡ state book inUse e) (o : u ≡ 1) {position : List ℕ} (p : position ≡ positionOf (state book) e) where
       -- first pass
       module _ {x : Eligibility} {nominals : List ℕ} (f : EligibilityFor (basketOf (state book) e) (state book today 0) (columnsOf (state book)) x)
           (n : nominals ≡ filled (ineligibleIn position columns x) 64 64) where
@@ -107,7 +107,7 @@ module _ {book columns : List ℕ} {e : ℕ} (m : SoundBook book columns) where
           let same : s ≡ onUsed shortfallIn s e = ⊎-elim
           (λ t. let n : missing ≡ s exposures e - valueOf s e = rw t at h in rw (t, le-ltb (valueOf s e) (s exposures e) (omega arith)))
           (λ f. rw f)
-          (either (eqb (s useds e) 1)) in
+          (either (eqb (s inUse e) 1)) in
           record { book = m; stepped = same; flag-is = rw (moved-none (state book) e) }
 
       module _ (some : missing ≡ 0 → ⊥) {found : Outcome} (n : found ≡ pickFor (state book) e (eligibleFor (state book) e) missing) where
@@ -126,5 +126,5 @@ module _ {book columns : List ℕ} {e : ℕ} (m : SoundBook book columns) where
             → y ≡ state after exposures e → x ≡ y - v → x ≡ missingOf (state after) e
         search-missing-is {after} {row} {r} {v} {x} t p w a d =
             let b = own-used shortfallIn (third-pass .local) (state book) e .bonds in
-            let u : state after useds e ≡ 1 = rw (t .stepped) (amounts-kept b e .0) ∙ lacking-used (state book) e h some in
+            let u : state after inUse e ≡ 1 = rw (t .stepped) (amounts-kept b e .0) ∙ lacking-used (state book) e h some in
             missing-used (state after) e u (rw (a, w, t .book .securities, p) at d)

@@ -15,8 +15,8 @@ ghost use Rattle.marking_laws.specs.Pass.{isEmpty};
 ghost use Rattle.mark_steps.specs.Stepped.{Stepped, bit, ineligibleIn, mayStay};
 use baskets::Eligibility;
 use book::layout::EXPOSURES;
+use book::layout::IN_USE;
 use book::layout::POSITIONS;
-use book::layout::USEDS;
 
 // What a step leaves of an exposure: 1 where its position is another, and what its value is short of its amount.
 pub struct Passed {
@@ -91,7 +91,7 @@ fn may_stay(book: &[u8], columns: &[u64; 256], x: Eligibility, e: usize, i: usiz
     baskets::is_eligible(x, columns, i)
 }
 
-// May all that an exposure holds stay? Read where it stands, for on most days it does.
+// May all that an exposure holds stay? Reads the position in the book without a copy: on most days nothing goes back.
 fn may_all_stay(book: &[u8], columns: &[u64; 256], x: Eligibility, e: usize) -> bool
     requires { ⌜ (length (now book) ≡ bookLength) × (e < 64) × AllInBounds (now columns) ⌝ }
     ensures { λ r. ⌜ r ≡ all (mayStay (positionOf (state (now (book .entry))) e) (now (columns .entry)) x) 64 0 ⌝ }
@@ -111,7 +111,7 @@ pub fn give_ineligible(book: &mut [u8], columns: &[u64; 256], since: &[u64; 16],
     requires { ⌜ SoundBook (now book) (now columns) × (e < 64) × FreshBaskets (state (now book)) (now since) ⌝ }
     ensures { λ r. ⌜ Stepped ineligibleBack (now (columns .entry)) (now (book .entry)) (now (book .exit)) e r ⌝ }
 {
-    if book::get(book, USEDS, e) != 1 {
+    if book::get(book, IN_USE, e) != 1 {
         return 0;
     }
     let x = eligibility::eligibility_of(book, since, e);
@@ -129,7 +129,7 @@ pub fn free_excess(book: &mut [u8], columns: &[u64; 256], e: usize) -> Passed
     requires { ⌜ SoundBook (now book) (now columns) × (e < 64) ⌝ }
     ensures { λ r. ⌜ Stepped excessBack (now (columns .entry)) (now (book .entry)) (now (book .exit)) e (r .moved) × (r .missing ≡ missingOf (state (now (book .exit))) e) ⌝ }
 {
-    if book::get(book, USEDS, e) != 1 {
+    if book::get(book, IN_USE, e) != 1 {
         return Passed {
             moved: 0,
             missing: 0,

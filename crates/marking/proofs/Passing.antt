@@ -12,7 +12,7 @@ use lib.Dec.{eqb}
 use borrow.Author.Tests.{eqb-true}
 use Rattle.laws.proofs.Cases.{either}
 use Rattle.securities.specs.Position.{worth, nominalsOf}
-use Rattle.book.specs.Layout.{today, ages, useds, exposures, positions}
+use Rattle.book.specs.Layout.{today, ages, inUse, exposures, positions}
 use Rattle.book.specs.State.{State, state, columnsOf}
 use Rattle.eligibility.specs.Fresh.{FreshBaskets, SamePrices}
 use Rattle.eligibility.proofs.Fresh.{fresh-same}
@@ -36,8 +36,8 @@ missing-same {s} {t} e b a =
     let row : positionOf t e ≡ positionOf s e = filled-same (λ i. t positions (64 * e + i)) (λ i. s positions (64 * e + i)) 64 64 a in
     let value : valueOf t e ≡ valueOf s e = ap (λ (c : List ℕ). worth c (nominalsOf (positionOf t e))) (columns-kept b) ∙ ap (λ (r : List ℕ). worth (columnsOf s) (nominalsOf r)) row in
     ap (λ (u : ℕ). cond (eqb u 1) (t exposures e - valueOf t e) 0) (k .0)
-    ∙ ap (λ (x : ℕ). cond (eqb (s useds e) 1) (x - valueOf t e) 0) (k .1)
-    ∙ ap (λ (v : ℕ). cond (eqb (s useds e) 1) (s exposures e - v) 0) value
+    ∙ ap (λ (x : ℕ). cond (eqb (s inUse e) 1) (x - valueOf t e) 0) (k .1)
+    ∙ ap (λ (v : ℕ). cond (eqb (s inUse e) 1) (s exposures e - v) 0) value
 
 bonds-between : {s t u : State} → Bonds s t → Bonds s u → Bonds t u
 bonds-between b c = record { others = λ g j a p. c .others g j a p ∙ sym (b .others g j a p) }
@@ -46,9 +46,9 @@ bonds-between b c = record { others = λ g j a p. c .others g j a p ∙ sym (b .
 pub missing-le : {book columns : List ℕ} {e : ℕ} → SoundBook book columns → e < 64 → missingOf (state book) e ≤ 10000000000000
 missing-le {book} {columns} {e} m below =
     ⊎-elim
-    (λ t. let a = amount-le m below refl (eqb-true (state book useds e) 1 t) in rw t (omega arith))
+    (λ t. let a = amount-le m below refl (eqb-true (state book inUse e) 1 t) in rw t (omega arith))
     (λ f. rw f (omega arith))
-    (either (eqb (state book useds e) 1))
+    (either (eqb (state book inUse e) 1))
 
 -- no pass changes a price
 pass-prices : {step : State → ℕ → State} → Passable step → (s : State) (n : ℕ) → SamePrices s (onExposures step n s)

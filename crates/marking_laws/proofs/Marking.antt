@@ -13,7 +13,7 @@ use lib.ListN.{take, drop}
 use borrow.Author.Tests.{eqb-true, ltb-true, ltb-false, not-false}
 use Rattle.laws.proofs.Cases.{either}
 use Rattle.laws.proofs.Filled.{filled-at}
-use Rattle.book.specs.Layout.{lots, useds, exposureGivers, exposures, positions}
+use Rattle.book.specs.Layout.{lots, inUse, exposureGivers, exposures, positions}
 use Rattle.book.specs.State.{State}
 use Rattle.records.specs.Writing.{areLegal}
 use Rattle.rules.specs.Codes.{recallRules}
@@ -56,7 +56,7 @@ ineligible-returnable s e f below =
       whole = λ i l. rw (at i (le-refl 64) l) (⊎-elim (λ q. rw q (inl refl)) (λ q. rw q (position-lots s f e i below l)) (either (eligibleFor s e i)));
     }
 
-module _ (s : State) (e : ℕ) (h : Good s) (below : e < 64) (u : s useds e ≡ 1) where
+module _ (s : State) (e : ℕ) (h : Good s) (below : e < 64) (u : s inUse e ≡ 1) where
   kept-back : (n : List ℕ) → Returnable s e n → Kept s (giveBack s e n)
   kept-back n r = record { good = good-giveBack s e n h below u r; bonds = holding-giveBack s e n below u (giveBack-lowerable r) }
 
@@ -109,7 +109,7 @@ unfolding excessBack
 excess-less s e = given-less s e (freeFor s e (s exposures e) .nominals)
 
 -- a pass of such steps
-module _ (step : State → ℕ → State) (keep : (t : State) (e : ℕ) → Good t → e < 64 → t useds e ≡ 1 → Kept t (step t e)) (s : State) (h : Good s) where
+module _ (step : State → ℕ → State) (keep : (t : State) (e : ℕ) → Good t → e < 64 → t inUse e ≡ 1 → Kept t (step t e)) (s : State) (h : Good s) where
   pub kept-pass : (n : ℕ) → n ≤ 64 → Kept s (onExposures step n s)
   kept-pass n l = pass-keeps step (Kept s) (λ t e m u k. kept-then k (keep t e (k .good) m u)) s n l (kept-none s h)
 
@@ -135,8 +135,8 @@ module _ (s : State) where
     kept-searched = kept-then kept-givenBack (kept-pass shortfallIn kept-shortfall (givenBack s) (kept-givenBack .good) 64 (le-refl 64))
 
 -- an exposure stays in use, with its amount, where bonds alone move
-pub amounts-kept : {s t : State} → Bonds s t → (e : ℕ) → (t useds e ≡ s useds e) × (t exposures e ≡ s exposures e)
-amounts-kept b e = (b .others useds e (λ q. omega arith) (λ q. omega arith), b .others exposures e (λ q. omega arith) (λ q. omega arith))
+pub amounts-kept : {s t : State} → Bonds s t → (e : ℕ) → (t inUse e ≡ s inUse e) × (t exposures e ≡ s exposures e)
+amounts-kept b e = (b .others inUse e (λ q. omega arith) (λ q. omega arith), b .others exposures e (λ q. omega arith) (λ q. omega arith))
 
 pub keeps-mark : (s : State) → Good s → Keeps s (marked s)
 unfolding marked allNoted
@@ -163,7 +163,7 @@ module _ (s : State) (r : List ℕ) where
       let holds = none-applies (take 2 (drop 3 (recallRules s r))) refl g in
       let known : securitySetUp s (field r 2) ≡ true = not-false (securitySetUp s (field r 2)) (names .1 .1 .0) in
       record {
-        used = eqb-true (s useds exposure) 1 (split (eqb (s useds exposure) 1 ∷ eqb (s exposureGivers exposure) (field r 0) ∷ []) (not-false _ (holds .0)) .0);
+        used = eqb-true (s inUse exposure) 1 (split (eqb (s inUse exposure) 1 ∷ eqb (s exposureGivers exposure) (field r 0) ∷ []) (not-false _ (holds .0)) .0);
         known = known;
         whole = eqb-true (field r 3 % s lots (field r 2)) 0 (not-false (eqb (field r 3 % s lots (field r 2)) 0) (rw known at (names .0)));
         holds = ltb-false (s positions (64 * exposure + field r 2)) (field r 3) (holds .1 .0);

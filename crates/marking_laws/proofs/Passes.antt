@@ -9,7 +9,7 @@ use native.Mathlib.Omega.{arith}
 use lib.Dec.{eqb}
 use borrow.Author.Tests.{eqb-true}
 use Rattle.laws.proofs.Cases.{either}
-use Rattle.book.specs.Layout.{useds, positions}
+use Rattle.book.specs.Layout.{inUse, positions}
 use Rattle.book.specs.State.{State}
 use Rattle.rules.specs.Marking.{onExposures, moved}
 use Rattle.marking_laws.specs.Pass.{onUsed}
@@ -21,8 +21,8 @@ Local step = (s : State) (e : ℕ) → Own e s (step s e)
 
 module _ (step : State → ℕ → State) where
   -- what holds after the step where the exposure is used, and before it where it is not
-  pub used-cases : (P : State → Type 0) (s : State) (e : ℕ) → (s useds e ≡ 1 → P (step s e)) → P s → P (onUsed step s e)
-  used-cases P s e used idle = ⊎-elim (λ q. rw q (used (eqb-true (s useds e) 1 q))) (λ q. rw q idle) (either (eqb (s useds e) 1))
+  pub used-cases : (P : State → Type 0) (s : State) (e : ℕ) → (s inUse e ≡ 1 → P (step s e)) → P s → P (onUsed step s e)
+  used-cases P s e used idle = ⊎-elim (λ q. rw q (used (eqb-true (s inUse e) 1 q))) (λ q. rw q idle) (either (eqb (s inUse e) 1))
 
   pub own-used : Local step → (s : State) (e : ℕ) → Own e s (onUsed step s e)
   own-used local s e = used-cases (Own e s) s e (λ u. local s e) (own-none e s)
@@ -40,7 +40,7 @@ module _ (step : State → ℕ → State) where
   on-none s = refl
 
   -- whatever each step keeps, the pass keeps
-  pub pass-keeps : (P : State → Type 0) → ((t : State) (e : ℕ) → e < 64 → t useds e ≡ 1 → P t → P (step t e)) → (s : State) (n : ℕ) → n ≤ 64 → P s → P (onExposures step n s)
+  pub pass-keeps : (P : State → Type 0) → ((t : State) (e : ℕ) → e < 64 → t inUse e ≡ 1 → P t → P (step t e)) → (s : State) (n : ℕ) → n ≤ 64 → P s → P (onExposures step n s)
   unfolding onExposures
   pass-keeps P keep s zero h p = p
   pass-keeps P keep s (suc e) h p =

@@ -6,12 +6,12 @@ use Prim.Native.Nat.{ℕ}
 use lib.Dec.{eqb}
 use lib.ListN.{getD}
 use Rattle.laws.specs.Search.{all}
-use Rattle.book.specs.Layout.{useds}
+use Rattle.book.specs.Layout.{inUse}
 use Rattle.book.specs.State.{State}
 
 -- a step on an exposure where it is used
 abbrev pub onUsed : (State → ℕ → State) → State → ℕ → State
-onUsed step s e = cond (eqb (s useds e) 1) (step s e) s
+onUsed step s e = cond (eqb (s inUse e) 1) (step s e) s
 
 -- none of 64 nominals is more than 0
 abbrev pub isEmpty : List ℕ → Bool

@@ -6,7 +6,7 @@ use mathlib.Core.List.{List}
 use Prim.Native.Nat.{ℕ, _+_, _*_, _-_, _%_, _≤_}
 use lib.ListN.{getD, set}
 use Rattle.laws.specs.Filled.{filled}
-use Rattle.book.specs.Layout.{lots, useds, exposureGivers, positions}
+use Rattle.book.specs.Layout.{lots, inUse, exposureGivers, positions}
 use Rattle.book.specs.State.{State}
 use Rattle.rules.specs.Outcome.{field}
 use Rattle.rules.specs.Stock.{securitySetUp, accountOf, positionOf}
@@ -31,7 +31,7 @@ positionLeft s r = less (positionOf s (field r 1)) (field r 2) (field r 3)
 
 -- what all rules of a recall but the last leave: a used exposure that holds the nominal, in whole lots of a security set up
 pub record Recallable (s : State) (r : List ℕ) : Type 0 where
-  pub used : s useds (field r 1) ≡ 1
+  pub used : s inUse (field r 1) ≡ 1
   pub known : securitySetUp s (field r 2) ≡ true
   pub whole : field r 3 % s lots (field r 2) ≡ 0
   pub holds : field r 3 ≤ s positions (64 * field r 1 + field r 2)

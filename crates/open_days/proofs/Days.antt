@@ -24,16 +24,16 @@ first-open = refl
 pub days-start : OpenDays (replicate 16 1)
 days-start = record { long = refl; each = λ k l. rw (getD-replicate {A = ℕ} 16 k 1 0 l) first-open }
 
-module _ (days : List ℕ) (day : ℕ) {place : ℕ} (known : OpenDays days) (near : place < 16) where
-  pub day-known : getD days place 0 ≡ day → true ≡ openDay day
-  day-known e = sym (rw e at (known .each place near))
+module _ (days : List ℕ) (day : ℕ) {slot : ℕ} (known : OpenDays days) (near : slot < 16) where
+  pub day-known : getD days slot 0 ≡ day → true ≡ openDay day
+  day-known e = sym (rw e at (known .each slot near))
 
-  pub day-noted : openDay day ≡ true → OpenDays (set days place day)
+  pub day-noted : openDay day ≡ true → OpenDays (set days slot day)
   day-noted o = record {
     long = simp length-set (known .long);
-    each = λ k l. elim (ℕ-discrete k place) [
-      | yes q ↦ rw (q, getD-set-same days place day 0 (omega (arith, known .long))) o
-      | no q ↦ rw (getD-set-other days place k day 0 q) (known .each k l)
+    each = λ k l. elim (ℕ-discrete k slot) [
+      | yes q ↦ rw (q, getD-set-same days slot day 0 (omega (arith, known .long))) o
+      | no q ↦ rw (getD-set-other days slot k day 0 q) (known .each k l)
     ];
   }
 

@@ -6,20 +6,20 @@ ghost use Rattle.calendar.specs.Target.{openDay};
 ghost use Rattle.rules.specs.Sound.{openOrNone};
 ghost use Rattle.open_days.specs.Days.{OpenDays};
 
-// A place for a day among 16. A remainder by 16 would do as well, but makes the compiler load the day's last byte by itself.
-fn day_place(day: u64) -> usize
+// The slot of a day in a cache of 16 open days. A remainder by 16 would do as well, but makes the compiler load the day's last byte by itself.
+fn day_slot(day: u64) -> usize
     ensures { λ r. ⌜ r < 16 ⌝ }
 {
     (day % 4294967296 * 2654435761 / 268435456 % 16) as usize
 }
 
-// Is a day open? Some open days are at hand, each at its place: most days of a book are one of a few.
+// Is a day open? A cache holds open days, each in its slot: most days of a book are one of a few.
 pub fn is_known_open(days: &[u64; 16], day: u64) -> bool
     requires { ⌜ OpenDays (now days) ⌝ }
     ensures { λ r. ⌜ r ≡ openDay day ⌝ }
 {
-    let place = day_place(day);
-    if days[place] == day {
+    let slot = day_slot(day);
+    if days[slot] == day {
         return true;
     }
     calendar::is_open(day)
@@ -30,8 +30,8 @@ pub fn note_open(days: &mut [u64; 16], day: u64)
     requires { ⌜ OpenDays (now days) × (openDay day ≡ true) ⌝ }
     ensures { λ _. ⌜ OpenDays (now (days .exit)) ⌝ }
 {
-    let place = day_place(day);
-    days[place] = day;
+    let slot = day_slot(day);
+    days[slot] = day;
 }
 
 // Is a closing day open, or none?

@@ -3,7 +3,7 @@
 use mathlib.Core.Path.{_≡_, sym, _∙_}
 use Prim.Native.Nat.{ℕ, _+_, _-_, _≤_, _<_, min}
 use borrow.Author.Tests.{eq-eqb, ne-eqb, lt-ltb, le-ltb}
-use Rattle.book.specs.Layout.{tolerance, objects, settleds, partners, pairPartials, exposures}
+use Rattle.book.specs.Layout.{tolerance, objects, settledAmounts, partners, pairPartials, exposures}
 use Rattle.book.specs.State.{State, put}
 use Rattle.picking.specs.declared.Outcome.{Outcome}
 use Rattle.rules.specs.Requests.{restOf, exposureOfFop}
@@ -12,8 +12,8 @@ use Rattle.rules.specs.Stock.{eligibleFor, pickFor, freeFor, pledge, giveBack}
 use Rattle.pair_settlement.specs.Pairs.{amountFor, returnLeft, fopLeft}
 
 -- both rows and the exposure, written one after the other
-pub all-noted : (s : State) (i x e y : ℕ) {p own other : ℕ} {t u v : State} → p ≡ s partners i → own ≡ s settleds i → other ≡ s settleds (p - 1)
-    → t ≡ put s settleds i (own + x) → u ≡ put t settleds (p - 1) (other + x) → v ≡ put u exposures e y → v ≡ put (bothSettled s i x) exposures e y
+pub all-noted : (s : State) (i x e y : ℕ) {p own other : ℕ} {t u v : State} → p ≡ s partners i → own ≡ s settledAmounts i → other ≡ s settledAmounts (p - 1)
+    → t ≡ put s settledAmounts i (own + x) → u ≡ put t settledAmounts (p - 1) (other + x) → v ≡ put u exposures e y → v ≡ put (bothSettled s i x) exposures e y
 all-noted s i x e y pq oq rq tq uq vq = rw (vq, uq, tq, oq, rq, pq)
 
 -- a return

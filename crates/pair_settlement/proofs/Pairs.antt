@@ -7,7 +7,7 @@ use Prim.Native.Nat.{ℕ, _+_, _-_, _≤_, _<_}
 use native.Mathlib.Omega.{arith}
 use lib.Dec.{eqb}
 use borrow.Author.Tests.{eqb-false, eq-eqb, not-true}
-use Rattle.book.specs.Layout.{kinds, amounts, settleds, partners, useds, exposures}
+use Rattle.book.specs.Layout.{kinds, amounts, settledAmounts, partners, inUse, exposures}
 use Rattle.book.specs.State.{State, put, columnsOf}
 use Rattle.rules.specs.Requests.{isPaired, restOf, exposureOfFop}
 use Rattle.rules.specs.Settlement.{bothSettled}
@@ -73,9 +73,9 @@ module _ {s : State} (g : Good s) where
   pub fop-pair : {i : ℕ} → PairOf s 6 i → exposureOfFop s i < 64
   fop-pair {i} p = fop-below s i g (p .below) (p .used) (p .paired) (eq-eqb (s kinds i) 6 (p .kind-is))
 
-  pub exposure-le : (e : ℕ) → e < 64 → s useds e ≡ 1 → s exposures e ≤ 10000000000000
+  pub exposure-le : (e : ℕ) → e < 64 → s inUse e ≡ 1 → s exposures e ≤ 10000000000000
   exposure-le e l u = used-exposure s e (g .facts .exposure e l) u .amount
 
 -- the partner's row by the number that names it
-pub partner-room : (s : State) (i x : ℕ) {p other : ℕ} → Settleable s i x → p ≡ s partners i → other ≡ s settleds (p - 1) → other + x ≤ 1000000000000
+pub partner-room : (s : State) (i x : ℕ) {p other : ℕ} → Settleable s i x → p ≡ s partners i → other ≡ s settledAmounts (p - 1) → other + x ≤ 1000000000000
 partner-room s i x h pq oq = rw (oq, pq) (h .other)

@@ -4,7 +4,7 @@ use mathlib.Core.Path.{_≡_}
 use mathlib.Core.Bool.{true, cond}
 use Prim.Native.Nat.{ℕ, _+_, _-_, _≤_, _<_}
 use lib.Dec.{eqb, ltb}
-use Rattle.book.specs.Layout.{tolerance, kinds, settleds, partners, pairPartials}
+use Rattle.book.specs.Layout.{tolerance, kinds, settledAmounts, partners, pairPartials}
 use Rattle.book.specs.State.{State}
 use Rattle.rules.specs.Requests.{isUsed, isPaired, partnerOf}
 use Rattle.rules.specs.Settlement.{returnAmount, returnSettled, fopAmount, fopSettled}
@@ -21,8 +21,8 @@ pub record Settleable (s : State) (i x : ℕ) : Type 0 where
   pub below : i < 256
   pub paired : 0 < s partners i
   pub partner : partnerOf s i < 256
-  pub own : s settleds i + x ≤ 1000000000000
-  pub other : s settleds (partnerOf s i) + x ≤ 1000000000000
+  pub own : s settledAmounts i + x ≤ 1000000000000
+  pub other : s settledAmounts (partnerOf s i) + x ≤ 1000000000000
 
 -- what a FOP settles of its rest, for the value found: the cases of `fopAmount` after the limit of an exposure
 abbrev pub amountFor : State → ℕ → ℕ → ℕ → ℕ

@@ -3,7 +3,7 @@ ghost use mathlib.Core.Path.{_≡_};
 ghost use Prim.Native.Nat.{_<_, _≤_};
 ghost use lib.ListN.{length};
 ghost use Rattle.eligibility.specs.Fresh.{FreshBaskets};
-ghost use Rattle.book.specs.Layout.{settleds, amounts, exposures, bookLength};
+ghost use Rattle.book.specs.Layout.{settledAmounts, amounts, exposures, bookLength};
 ghost use Rattle.book.specs.State.{state, put, columnsOf};
 ghost use Rattle.facts.proofs.Keeps.{Good};
 ghost use Rattle.rules.specs.Requests.{restOf, exposureOfFop};
@@ -16,16 +16,16 @@ use book::layout::GIVERS;
 use book::layout::OBJECTS;
 use book::layout::PAIR_PARTIALS;
 use book::layout::PARTNERS;
-use book::layout::SETTLEDS;
+use book::layout::SETTLED_AMOUNTS;
 use book::layout::TAKERS;
 use book::layout::TOLERANCE;
 
 // What is left to settle.
 fn rest_of(book: &[u8], i: usize) -> u64
-    requires { ⌜ (length (now book) ≡ bookLength) × (i < 256) × (state (now book) settleds i ≤ state (now book) amounts i) ⌝ }
+    requires { ⌜ (length (now book) ≡ bookLength) × (i < 256) × (state (now book) settledAmounts i ≤ state (now book) amounts i) ⌝ }
     ensures { λ r. ⌜ r ≡ restOf (state (now (book .entry))) i ⌝ }
 {
-    book::get(book, AMOUNTS, i) - book::get(book, SETTLEDS, i)
+    book::get(book, AMOUNTS, i) - book::get(book, SETTLED_AMOUNTS, i)
 }
 
 // Both rows of a pair have settled so much more, and the exposure has a new amount.
@@ -34,10 +34,10 @@ fn note_settled(book: &mut [u8], i: usize, x: u64, e: usize, exposure: u64)
     ensures { λ _. ⌜ state (now (book .exit)) ≡ put (bothSettled (state (now (book .entry))) i x) exposures e exposure ⌝ }
 {
     let j = (book::get(book, PARTNERS, i) - 1) as usize;
-    let own = book::get(book, SETTLEDS, i);
-    let other = book::get(book, SETTLEDS, j);
-    book::set(book, SETTLEDS, i, own + x);
-    book::set(book, SETTLEDS, j, other + x);
+    let own = book::get(book, SETTLED_AMOUNTS, i);
+    let other = book::get(book, SETTLED_AMOUNTS, j);
+    book::set(book, SETTLED_AMOUNTS, i, own + x);
+    book::set(book, SETTLED_AMOUNTS, j, other + x);
     book::set(book, EXPOSURES, e, exposure);
 }
 

@@ -18,7 +18,7 @@ use Rattle.rules.specs.Reads.{account, position, exposure, request, basket, row
 use Rattle.rules.specs.Requests.{isUsed}
 use Rattle.facts.proofs.Searches.{least-le}
 use Rattle.reads.specs.Entries.{bookCode, requestNumber}
-use Rattle.reads.proofs.Ways.{book-refused, read-refused, read-accepted}
+use Rattle.reads.proofs.Returns.{book-refused, read-refused, read-accepted}
 
 -- a read that is accepted names numbers in their ranges
 module _ (s : State) (x i : ℕ) {c : ℕ} where

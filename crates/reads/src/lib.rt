@@ -18,13 +18,13 @@ use book::layout::EXPOSURE_CLOSINGS;
 use book::layout::EXPOSURE_GIVERS;
 use book::layout::EXPOSURE_TAKERS;
 use book::layout::EXPOSURES;
+use book::layout::IN_USE;
 use book::layout::LOTS;
 use book::layout::MAPS;
 use book::layout::MODES;
 use book::layout::NUMBERS;
 use book::layout::PARTNERS;
 use book::layout::POSITIONS;
-use book::layout::USEDS;
 
 // 1 for a book of another length, 2 for one that is not sound, else 0.
 pub fn book_code(book: &[u8]) -> u64
@@ -70,7 +70,7 @@ fn position_rules(book: &[u8], exposure: u64, security: u64) -> u64
     if 64 <= security {
         return 4;
     }
-    if book::get(book, USEDS, exposure as usize) != 1 {
+    if book::get(book, IN_USE, exposure as usize) != 1 {
         return 5;
     }
     if book::get(book, LOTS, security as usize) == 0 {
@@ -87,7 +87,7 @@ fn exposure_rules(book: &[u8], e: u64) -> u64
     if 64 <= e {
         return 4;
     }
-    if book::get(book, USEDS, e as usize) != 1 {
+    if book::get(book, IN_USE, e as usize) != 1 {
         return 5;
     }
     0

@@ -1,4 +1,4 @@
-// The codes of a recall before its last.
+// The codes of a recall but 16: 4, 5, 12 and 10.
 ghost use mathlib.Core.Path.{_≡_};
 ghost use mathlib.Core.Bool.{true};
 ghost use lib.ListN.{length};
@@ -7,10 +7,10 @@ ghost use Rattle.book.specs.State.{state};
 ghost use Rattle.records.specs.Writing.{areLegal};
 ghost use Rattle.recalls.specs.Codes.{namesCode, holdsCode};
 use book::layout::EXPOSURE_GIVERS;
+use book::layout::IN_USE;
 use book::layout::LOTS;
 use book::layout::MODES;
 use book::layout::POSITIONS;
-use book::layout::USEDS;
 
 // 4 for a nominal that is not in whole lots, 5 for a giver or a security not set up, else 0. A security not set up has no lots: 5.
 pub fn names_code(book: &[u8], fields: &[u64; 8]) -> u64
@@ -36,7 +36,7 @@ pub fn holds_code(book: &[u8], fields: &[u64; 8]) -> u64
     ensures { λ r. ⌜ r ≡ holdsCode (state (now (book .entry))) (now (fields .entry)) ⌝ }
 {
     let e = fields[1] as usize;
-    if book::get(book, USEDS, e) != 1 {
+    if book::get(book, IN_USE, e) != 1 {
         return 12;
     }
     if book::get(book, EXPOSURE_GIVERS, e) != fields[0] {

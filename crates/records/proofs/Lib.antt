@@ -5,4 +5,4 @@ pub mod Puts
 pub mod Ranges
 pub mod Readings
 pub mod RoundTrip
-pub mod Ways
+pub mod Returns

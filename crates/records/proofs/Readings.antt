@@ -15,7 +15,7 @@ use Rattle.record_kinds.specs.Kinds.{known, lengthOf, inRanges}
 use Rattle.records.specs.Reading.{read, taken, refused, fieldIn, isMalformed}
 use Rattle.records.specs.Writing.{areLegal}
 use Rattle.records.specs.declared.Reading as declared
-use Rattle.records.proofs.Ways.{legal-filled}
+use Rattle.records.proofs.Returns.{legal-filled}
 
 -- a reading of a first byte, as a record that was taken
 pub record Taken (first : ℕ) (r : declared.Reading) : Type 0 where

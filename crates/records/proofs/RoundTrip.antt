@@ -21,7 +21,7 @@ use Rattle.records.specs.Writing.{areLegal, image, misfits, writeCode, w
 use Rattle.records.specs.declared.Reading as declared
 use Rattle.record_kinds.proofs.Fields.{greatest-fits}
 use Rattle.records.proofs.Images.{image-length, image-kind, image-field, image-back}
-use Rattle.records.proofs.Ways.{legal-filled, read-legal, part-filled, write-legal}
+use Rattle.records.proofs.Returns.{legal-filled, read-legal, part-filled, write-legal}
 
 -- a number in its range has room in its field
 in-range-fits : (k j x : ℕ) → inRange k j x ≡ true → x < 256 ^ widthOf k j

@@ -5,7 +5,7 @@ use mathlib.Core.List.{List, [], _∷_, _++_}
 use Prim.Native.Nat.{ℕ}
 use lib.Dec.{eqb, leb, ltb}
 use Rattle.calendar.specs.Target.{openDay}
-use Rattle.book.specs.Layout.{today, useds, exposureGivers, exposureTakers}
+use Rattle.book.specs.Layout.{today, inUse, exposureGivers, exposureTakers}
 use Rattle.book.specs.State.{State}
 use Rattle.rules.specs.Codes.{noParticipant, noBasket, dayNotOpen, giverIsTaker, takerNeedsNone, tooFewRows}
 use Rattle.rules.specs.Outcome.{Rule, rule}
@@ -45,4 +45,4 @@ exposureRules s r = rule (needsExposure s 6 r && eqb (freeExposure s) 64) 15 ∷
 -- the exposure that a return's record names is used, with its giver and taker
 abbrev pub namesExposure : State → List ℕ → Bool
 namesExposure s r =
-    eqb (s useds (objectIn r)) 1 && (eqb (s exposureGivers (objectIn r)) (giverIn r) && eqb (s exposureTakers (objectIn r)) (takerIn r))
+    eqb (s inUse (objectIn r)) 1 && (eqb (s exposureGivers (objectIn r)) (giverIn r) && eqb (s exposureTakers (objectIn r)) (takerIn r))

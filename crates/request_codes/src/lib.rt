@@ -10,11 +10,11 @@ ghost use Rattle.request_search.specs.Ranges.{RequestIn};
 ghost use Rattle.request_codes.specs.Rules.{partyRules, basketRules, settlementRules, closingRules, takerRules, rowRules, exposureRules, fopNameRules, namesExposure};
 use book::layout::EXPOSURE_GIVERS;
 use book::layout::EXPOSURE_TAKERS;
+use book::layout::IN_USE;
 use book::layout::MAPS;
 use book::layout::MODES;
 use book::layout::NEXT_NUMBER;
 use book::layout::TODAY;
-use book::layout::USEDS;
 
 // 5 where the giver or the taker is not set up, else 0.
 pub fn party_code(book: &[u8], fields: &[u64; 8]) -> u64
@@ -170,7 +170,7 @@ pub fn names_exposure(book: &[u8], fields: &[u64; 8]) -> bool
     ensures { λ r. ⌜ r ≡ namesExposure (state (now (book .entry))) (now (fields .entry)) ⌝ }
 {
     let e = fields[3] as usize;
-    if book::get(book, USEDS, e) != 1 {
+    if book::get(book, IN_USE, e) != 1 {
         return false;
     }
     if book::get(book, EXPOSURE_GIVERS, e) != fields[1] {

@@ -12,11 +12,11 @@ use book::layout::EXPOSURE_BASKETS;
 use book::layout::EXPOSURE_CLOSINGS;
 use book::layout::EXPOSURE_GIVERS;
 use book::layout::EXPOSURE_TAKERS;
+use book::layout::IN_USE;
 use book::layout::NEXT_NUMBER;
 use book::layout::NUMBERS;
 use book::layout::PAIR_PARTIALS;
 use book::layout::PARTNERS;
-use book::layout::USEDS;
 
 // Enters a request that waits for an equal one.
 pub fn enter_waiting(book: &mut [u8], kind: u64, fields: &[u64; 8])
@@ -63,7 +63,7 @@ fn give_exposure(book: &mut [u8], fields: &[u64; 8], e: usize)
     requires { ⌜ (length (now book) ≡ bookLength) × EntryIn 6 (now fields) × (e < 64) ⌝ }
     ensures { λ _. ⌜ state (now (book .exit)) ≡ exposureGiven (state (now (book .entry))) (now (fields .entry)) e ⌝ }
 {
-    book::set(book, USEDS, e, 1);
+    book::set(book, IN_USE, e, 1);
     book::set(book, EXPOSURE_GIVERS, e, fields[1]);
     book::set(book, EXPOSURE_TAKERS, e, fields[2]);
     book::set(book, EXPOSURE_BASKETS, e, fields[3]);

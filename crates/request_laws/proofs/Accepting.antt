@@ -11,7 +11,7 @@ use borrow.Author.Tests.{eqb-true, eqb-false, ltb-false, not-false}
 use Rattle.laws.specs.Search.{count}
 use Rattle.laws.proofs.Cases.{either, or-left, or-right}
 use Rattle.calendar.specs.Target.{openDay}
-use Rattle.book.specs.Layout.{tolerance, nextNumber, numbers, useds, exposureGivers, exposureTakers}
+use Rattle.book.specs.Layout.{tolerance, nextNumber, numbers, inUse, exposureGivers, exposureTakers}
 use Rattle.book.specs.State.{State}
 use Rattle.record_kinds.specs.Kinds.{kinds}
 use Rattle.records.specs.Writing.{areLegal}
@@ -27,7 +27,7 @@ use Rattle.facts.proofs.Rules.{none-applies}
 use Rattle.facts.proofs.Truth.{split}
 use Rattle.request_laws.proofs.Entries.{FopIn, ReturnIn, fopIn, returnIn, RequestIn}
 use Rattle.request_laws.proofs.Touching.{Small}
-use Rattle.request_laws.proofs.Ways.{Room}
+use Rattle.request_laws.proofs.EntryCases.{Room}
 
 module _ (r : List ℕ) where
   pub fop-small : areLegal 6 r ≡ true → Small 6 r
@@ -125,11 +125,11 @@ module _ (s : State) (r : List ℕ) where
     return-names =
         let o = objectIn r in
         let none = none-applies (returnRules s r) refl accepted in
-        let named = split (eqb (s useds o) 1 ∷ eqb (s exposureGivers o) (giverIn r) ∷ eqb (s exposureTakers o) (takerIn r) ∷ [])
-        (not-false (eqb (s useds o) 1 && (eqb (s exposureGivers o) (giverIn r) && eqb (s exposureTakers o) (takerIn r))) (none .1 .1 .1 .1 .1 .1 .0)) in
+        let named = split (eqb (s inUse o) 1 ∷ eqb (s exposureGivers o) (giverIn r) ∷ eqb (s exposureTakers o) (takerIn r) ∷ [])
+        (not-false (eqb (s inUse o) 1 && (eqb (s exposureGivers o) (giverIn r) && eqb (s exposureTakers o) (takerIn r))) (none .1 .1 .1 .1 .1 .1 .0)) in
         record {
           exposure-below = omega (arith, field-in 7 3 r legal (omega arith) .1);
-          exposure-used = eqb-true (s useds o) 1 (named .0);
+          exposure-used = eqb-true (s inUse o) 1 (named .0);
           giver = eqb-true (s exposureGivers o) (giverIn r) (named .1 .0);
           taker = eqb-true (s exposureTakers o) (takerIn r) (named .1 .1);
         }

@@ -13,7 +13,7 @@ use Rattle.laws.specs.Search.{all}
 use Rattle.laws.proofs.Cases.{either, clash, or-cases}
 use Rattle.laws.proofs.Least.{all-at}
 use Rattle.laws.proofs.Sum.{sum-same}
-use Rattle.book.specs.Layout.{today, tolerance, nextNumber, lots, prices, haircuts, quotes, modes, lists, partials, waitingModes, waitingLists, waitingPartials, maps, ages, numbers, ends, useds, exposureGivers, exposureTakers, exposureBaskets, exposureClosings, exposures, accounts, positions, spares}
+use Rattle.book.specs.Layout.{today, tolerance, nextNumber, lots, prices, haircuts, quotes, modes, lists, partials, waitingModes, waitingLists, waitingPartials, maps, ages, numbers, ends, inUse, exposureGivers, exposureTakers, exposureBaskets, exposureClosings, exposures, accounts, positions, spares}
 use Rattle.book.specs.State.{State}
 use Rattle.rules.specs.Requests.{hasKey, exposureWith}
 use Rattle.rules.specs.Sound.{soundRow, same, alike, differs, distinctNumber, soundExposure, otherKey, distinctKey, soundPosition, holding, positionFrom}
@@ -27,7 +27,7 @@ abbrev pub isRowTable : ℕ → Bool
 isRowTable f = leb numbers f && leb f ends
 
 abbrev pub isExposureTable : ℕ → Bool
-isExposureTable f = leb useds f && leb f exposureClosings
+isExposureTable f = leb inUse f && leb f exposureClosings
 
 abbrev pub isLeft : ℕ → Bool
 isLeft f = not (eqb f nextNumber || (isRowTable f || isExposureTable f))
@@ -47,7 +47,7 @@ abbrev pub SameKey : State → ℕ → ℕ → Type 0
 SameKey s d e = (f : ℕ) → exposureGivers ≤ f → f < exposureGivers + 4 → s f d ≡ s f e
 
 abbrev pub Keys : State → Type 0
-Keys s = (d e : ℕ) → d < 64 → e < 64 → s useds d ≡ 1 → s useds e ≡ 1 → SameKey s d e → d ≡ e
+Keys s = (d e : ℕ) → d < 64 → e < 64 → s inUse d ≡ 1 → s inUse e ≡ 1 → SameKey s d e → d ≡ e
 
 module _ (s : State) where
   earlier-differs : (i j : ℕ) → distinctNumber s i ≡ true → j < i → s numbers i ≡ s numbers j → s numbers i ≡ 0
@@ -76,7 +76,7 @@ module _ (s : State) where
       rw (ne-eqb (s numbers i) (s numbers j) (λ e. ⊎-elim (eqb-false (s numbers i) 0 z) (λ q. omega arith) (d i j l (omega arith) e))))))
       (either (eqb (s numbers i) 0))
 
-  earlier-key : (d e : ℕ) → distinctKey s d ≡ true → e < d → s useds d ≡ 1 → s useds e ≡ 1 → SameKey s d e → ⊥
+  earlier-key : (d e : ℕ) → distinctKey s d ≡ true → e < d → s inUse d ≡ 1 → s inUse e ≡ 1 → SameKey s d e → ⊥
   earlier-key d e h l u v k =
       let others : all (otherKey s d) d 0 ≡ true = rw u at h in
       let other : otherKey s d e ≡ true = all-at (otherKey s d) d 0 others e (omega arith) (omega arith) in
@@ -94,17 +94,17 @@ module _ (s : State) where
             ]
       ]
 
-  key-differs : Keys s → (e d : ℕ) → e < 64 → d < e → s useds e ≡ 1 → otherKey s e d ≡ true
+  key-differs : Keys s → (e d : ℕ) → e < 64 → d < e → s inUse e ≡ 1 → otherKey s e d ≡ true
   key-differs keys e d l m u =
       ⊎-elim
-      (λ (v : eqb (s useds d) 1 ≡ true). ⊎-elim
+      (λ (v : eqb (s inUse d) 1 ≡ true). ⊎-elim
       (λ (a : alike s 4 exposureGivers e d ≡ true).
       let k : SameKey s e d = λ f g n. eqb-true (s f e) (s f d) (all-at (λ f. same s f e d) 4 exposureGivers a f g n) in
-      absurd (omega (arith, keys e d l (omega arith) u (eqb-true (s useds d) 1 v) k)))
+      absurd (omega (arith, keys e d l (omega arith) u (eqb-true (s inUse d) 1 v) k)))
       (λ (a : alike s 4 exposureGivers e d ≡ false). rw (a, and-false))
       (either (alike s 4 exposureGivers e d)))
-      (λ (v : eqb (s useds d) 1 ≡ false). rw v)
-      (either (eqb (s useds d) 1))
+      (λ (v : eqb (s inUse d) 1 ≡ false). rw v)
+      (either (eqb (s inUse d) 1))
 
   pub facts-keys : Keys s → (e : ℕ) → e < 64 → soundExposure s e ≡ true → distinctKey s e ≡ true
   facts-keys keys e l h =
@@ -118,7 +118,7 @@ pub record Covers (s t : State) : Type 0 where
   pub left : (f i : ℕ) → isLeft f ≡ true → t f i ≡ s f i
   pub next-low : s nextNumber 0 ≤ t nextNumber 0
   pub next-high : t nextNumber 0 ≤ 1000000000
-  pub exposure : (f e : ℕ) → isExposureTable f ≡ true → s useds e ≡ 1 → t f e ≡ s f e
+  pub exposure : (f e : ℕ) → isExposureTable f ≡ true → s inUse e ≡ 1 → t f e ≡ s f e
 
 -- an exposure row that stays as it is
 abbrev pub SameExposure : State → State → ℕ → Type 0
@@ -144,11 +144,11 @@ module _ {s t : State} (c : Covers s t) where
   key-kept giver taker basket closing h =
       let e = exposureWith s giver taker basket closing in
       let passes : hasKey s giver taker basket closing e ≡ true = exposure-passes s giver taker basket closing h in
-      let k = split (eqb (s useds e) 1 ∷ eqb (s exposureGivers e) giver ∷ eqb (s exposureTakers e) taker ∷ eqb (s exposureBaskets e) basket ∷ eqb (s exposureClosings e) closing ∷ []) passes in
-      let u : s useds e ≡ 1 = eqb-true (s useds e) 1 (k .0) in
+      let k = split (eqb (s inUse e) 1 ∷ eqb (s exposureGivers e) giver ∷ eqb (s exposureTakers e) taker ∷ eqb (s exposureBaskets e) basket ∷ eqb (s exposureClosings e) closing ∷ []) passes in
+      let u : s inUse e ≡ 1 = eqb-true (s inUse e) 1 (k .0) in
       let at : (f : ℕ) → isExposureTable f ≡ true → t f e ≡ s f e = λ f i. c .exposure f e i u in
       exposure-found t giver taker basket closing e h
-      (rw (at useds refl, at exposureGivers refl, at exposureTakers refl, at exposureBaskets refl, at exposureClosings refl) passes)
+      (rw (at inUse refl, at exposureGivers refl, at exposureTakers refl, at exposureBaskets refl, at exposureClosings refl) passes)
 
   module _ (h : Sound s) where
     position-kept : (e i : ℕ) → e < 64 → i < 64 → soundPosition t e i ≡ true
@@ -156,7 +156,7 @@ module _ {s t : State} (c : Covers s t) where
         ⊎-elim
         (λ z. position-none t e i (c .left positions (64 * e + i) refl ∙ z))
         (λ (x : Stocked s e i). position-stocked t e i (record {
-          used = c .exposure useds e refl (x .used) ∙ x .used;
+          used = c .exposure inUse e refl (x .used) ∙ x .used;
           amount = rw (c .left exposures e refl) (x .amount);
           known = rw (c .left lots i refl) (x .known);
           whole = rw (c .left positions (64 * e + i) refl, c .left lots i refl) (x .whole);
@@ -167,9 +167,9 @@ module _ {s t : State} (c : Covers s t) where
     from-kept p i e l m =
         ⊎-elim
         (λ z.
-        either-zero (eqb (t useds e) 1 && eqb (t exposureGivers e) p) (t positions (64 * e + i)) (c .left positions (64 * e + i) refl ∙ z)
-        ∙ sym (either-zero (eqb (s useds e) 1 && eqb (s exposureGivers e) p) (s positions (64 * e + i)) z))
-        (λ (x : Stocked s e i). rw (c .left positions (64 * e + i) refl, c .exposure useds e refl (x .used), c .exposure exposureGivers e refl (x .used)))
+        either-zero (eqb (t inUse e) 1 && eqb (t exposureGivers e) p) (t positions (64 * e + i)) (c .left positions (64 * e + i) refl ∙ z)
+        ∙ sym (either-zero (eqb (s inUse e) 1 && eqb (s exposureGivers e) p) (s positions (64 * e + i)) z))
+        (λ (x : Stocked s e i). rw (c .left positions (64 * e + i) refl, c .exposure inUse e refl (x .used), c .exposure exposureGivers e refl (x .used)))
         (position-facts s e i (h .position e i m l))
 
     -- each participant's bonds
@@ -181,7 +181,7 @@ module _ {s t : State} (c : Covers s t) where
     exposure-kept e l same =
         ⊎-elim
         (λ z. let n = no-exposure s e (h .exposure e l) z in
-        no-exposure-sound t e (same useds refl ∙ z) (record {
+        no-exposure-sound t e (same inUse refl ∙ z) (record {
           giver = same exposureGivers refl ∙ n .giver;
           taker = same exposureTakers refl ∙ n .taker;
           basket = same exposureBaskets refl ∙ n .basket;
@@ -189,7 +189,7 @@ module _ {s t : State} (c : Covers s t) where
           amount = c .left exposures e refl ∙ n .amount;
         }))
         (λ u. let x = used-exposure s e (h .exposure e l) u in
-        exposure-sound t e (same useds refl ∙ u) (record {
+        exposure-sound t e (same inUse refl ∙ u) (record {
           parties = rw (same exposureGivers refl, same exposureTakers refl) (parties-kept (x .parties));
           basket-below = rw (same exposureBaskets refl) (x .basket-below);
           basket-known = rw (same exposureBaskets refl, c .left maps (s exposureBaskets e) refl) (x .basket-known);
@@ -200,8 +200,8 @@ module _ {s t : State} (c : Covers s t) where
 
     keys-kept : ((e : ℕ) → e < 64 → SameExposure s t e) → Keys t
     keys-kept same d e k l u v q =
-        keys-facts s (h .key) d e k l (sym (same d k useds refl) ∙ u) (sym (same e l useds refl) ∙ v)
-        (λ f g m. let i : isExposureTable f ≡ true = join (leb useds f ∷ leb f exposureClosings ∷ []) (le-leb useds f (omega arith), le-leb f exposureClosings (omega arith)) in
+        keys-facts s (h .key) d e k l (sym (same d k inUse refl) ∙ u) (sym (same e l inUse refl) ∙ v)
+        (λ f g m. let i : isExposureTable f ≡ true = join (leb inUse f ∷ leb f exposureClosings ∷ []) (le-leb inUse f (omega arith), le-leb f exposureClosings (omega arith)) in
         sym (same d k f i) ∙ q f g m ∙ same e l f i)
 
     head-kept : Head t

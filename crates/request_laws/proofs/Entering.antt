@@ -23,7 +23,7 @@ use Rattle.request_laws.proofs.Finding.{free-exposure}
 use Rattle.request_laws.proofs.Giving.{given-keeps, given-found, given-request}
 use Rattle.request_laws.proofs.Keeping.{leaving, keeps-then}
 use Rattle.request_laws.proofs.Order.{given-first}
-use Rattle.request_laws.proofs.Ways.{entering-keeps}
+use Rattle.request_laws.proofs.EntryCases.{entering-keeps}
 
 module _ (s : State) (r : List ℕ) (good : Good s) (legal : areLegal 6 r ≡ true) (accepted : lowest (fopRules s r) ≡ 0) (a b m : ℕ) where
   -- the exposure is given out first, then the rows enter

@@ -9,7 +9,7 @@ use native.Mathlib.Omega.{arith}
 use lib.Dec.{eqb}
 use borrow.Author.Tests.{eq-eqb, ne-eqb}
 use Rattle.calendar.specs.Target.{openDay}
-use Rattle.book.specs.Layout.{tolerance, nextNumber, maps, numbers, kinds, sides, givers, takers, objects, amounts, settlements, closings, settleds, partners, pairPartials, cancels, ends, useds, exposureGivers, exposureTakers}
+use Rattle.book.specs.Layout.{tolerance, nextNumber, maps, numbers, kinds, sides, givers, takers, objects, amounts, settlements, closings, settledAmounts, partners, pairPartials, cancels, ends, inUse, exposureGivers, exposureTakers}
 use Rattle.book.specs.State.{State}
 use Rattle.rules.specs.Requests.{isUsed, isReturn, isPaired, partnerOf, exposureWith, exposureOfFop}
 use Rattle.rules.specs.Requesting.{sideIn, giverIn, takerIn, objectIn, amountIn, settlementIn, closingIn, withRow}
@@ -28,7 +28,7 @@ pub record FopIn (s : State) (r : List ℕ) : Type 0 where
 
 pub record ReturnIn (s : State) (r : List ℕ) : Type 0 where
   pub exposure-below : objectIn r < 64
-  pub exposure-used : s useds (objectIn r) ≡ 1
+  pub exposure-used : s inUse (objectIn r) ≡ 1
   pub giver : s exposureGivers (objectIn r) ≡ giverIn r
   pub taker : s exposureTakers (objectIn r) ≡ takerIn r
 
@@ -60,7 +60,7 @@ pub record Entry (t : State) (k : ℕ) (r : List ℕ) (i n a p m : ℕ) : Type 0
   pub amount : t amounts i ≡ amountIn r
   pub settlement : t settlements i ≡ settlementIn r
   pub closing : t closings i ≡ closingIn k r
-  pub settled : t settleds i ≡ 0
+  pub settled : t settledAmounts i ≡ 0
   pub partner : t partners i ≡ p
   pub partial : t pairPartials i ≡ m
   pub cancel : t cancels i ≤ 1
@@ -68,7 +68,7 @@ pub record Entry (t : State) (k : ℕ) (r : List ℕ) (i n a p m : ℕ) : Type 0
 
 -- nothing is settled in a row, and it has no mark of cancel or end
 pub record Unmarked (s : State) (i : ℕ) : Type 0 where
-  pub settled : s settleds i ≡ 0
+  pub settled : s settledAmounts i ≡ 0
   pub cancel : s cancels i ≡ 0
   pub end : s ends i ≡ 0
 
@@ -110,7 +110,7 @@ entry-stays x same = record {
   amount = same amounts refl ∙ x .amount;
   settlement = same settlements refl ∙ x .settlement;
   closing = same closings refl ∙ x .closing;
-  settled = same settleds refl ∙ x .settled;
+  settled = same settledAmounts refl ∙ x .settled;
   partner = same partners refl ∙ x .partner;
   partial = same pairPartials refl ∙ x .partial;
   cancel = rw (same cancels refl) (x .cancel);
@@ -131,10 +131,10 @@ module _ {s t : State} {k : ℕ} {r : List ℕ} (c : Covers s t) (q : RequestIn 
     entry-return : k ≡ 7 → ReturnIn s r → Return t i
     entry-return e f =
         let o = objectIn r in
-        let u : s useds o ≡ 1 = f .exposure-used in
+        let u : s inUse o ≡ 1 = f .exposure-used in
         record {
           exposure-below = rw (x .object) (f .exposure-below);
-          exposure-used = rw (x .object) (c .exposure useds o refl u ∙ u);
+          exposure-used = rw (x .object) (c .exposure inUse o refl u ∙ u);
           giver = rw (x .object, x .giver) (c .exposure exposureGivers o refl u ∙ f .giver);
           taker = rw (x .object, x .taker) (c .exposure exposureTakers o refl u ∙ f .taker);
           amount-low = rw (x .amount) (q .amount-low);

@@ -9,7 +9,7 @@ use lib.Dec.{eqb}
 use borrow.Author.Tests.{eqb-true, eq-eqb, ne-eqb}
 use Rattle.laws.specs.Search.{count}
 use Rattle.laws.proofs.Cases.{clash, and-left}
-use Rattle.book.specs.Layout.{numbers, ends, useds, exposureGivers, exposureTakers, exposureBaskets, exposureClosings}
+use Rattle.book.specs.Layout.{numbers, ends, inUse, exposureGivers, exposureTakers, exposureBaskets, exposureClosings}
 use Rattle.book.specs.State.{State, put}
 use Rattle.book.proofs.Images.{put-same, put-other}
 use Rattle.rules.specs.Requests.{isUsed, isWhole, isOwner, hasKey, exposureWith, freeExposure, freeRow}
@@ -49,10 +49,10 @@ module _ (s : State) where
 
   -- an exposure with a key is found, and only such a one
   module _ (giver taker basket closing : ℕ) where
-    pub has-key : (e : ℕ) → s useds e ≡ 1 → s exposureGivers e ≡ giver → s exposureTakers e ≡ taker → s exposureBaskets e ≡ basket → s exposureClosings e ≡ closing
+    pub has-key : (e : ℕ) → s inUse e ≡ 1 → s exposureGivers e ≡ giver → s exposureTakers e ≡ taker → s exposureBaskets e ≡ basket → s exposureClosings e ≡ closing
         → hasKey s giver taker basket closing e ≡ true
     has-key e u g t b c =
-        rw (eq-eqb (s useds e) 1 u, eq-eqb (s exposureGivers e) giver g, eq-eqb (s exposureTakers e) taker t, eq-eqb (s exposureBaskets e) basket b)
+        rw (eq-eqb (s inUse e) 1 u, eq-eqb (s exposureGivers e) giver g, eq-eqb (s exposureTakers e) taker t, eq-eqb (s exposureBaskets e) basket b)
         (eq-eqb (s exposureClosings e) closing c)
 
     pub exposure-passes : exposureWith s giver taker basket closing < 64 → hasKey s giver taker basket closing (exposureWith s giver taker basket closing) ≡ true
@@ -66,11 +66,11 @@ module _ (s : State) where
     exposure-none z e l h = omega (arith, exposure-found e l h)
 
   -- the free exposure row, where there is one
-  pub free-exposure : (freeExposure s ≡ 64 → ⊥) → (freeExposure s < 64) × (s useds (freeExposure s) ≡ 0)
+  pub free-exposure : (freeExposure s ≡ 64 → ⊥) → (freeExposure s < 64) × (s inUse (freeExposure s) ≡ 0)
   free-exposure h =
-      let t : ℕ → Bool = λ e. eqb (s useds e) 0 in
+      let t : ℕ → Bool = λ e. eqb (s inUse e) 0 in
       let l : freeExposure s < 64 = omega (arith, least-le t 64 0) in
-      (l, eqb-true (s useds (freeExposure s)) 0 (least-holds t 64 0 (omega arith)))
+      (l, eqb-true (s inUse (freeExposure s)) 0 (least-holds t 64 0 (omega arith)))
 
   -- the equal request that waits
   pub earliest-equal : (k : ℕ) (r : List ℕ) → earliestEqual s k r < 256 → isEqual s k r (earliestEqual s k r) ≡ true

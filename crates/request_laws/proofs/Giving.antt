@@ -9,7 +9,7 @@ use native.Mathlib.Decide.{ℕ-discrete}
 use native.Mathlib.Omega.{arith}
 use lib.Dec.{eqb}
 use borrow.Author.Tests.{eq-eqb, ne-eqb}
-use Rattle.book.specs.Layout.{useds, exposureGivers, exposureTakers, exposureBaskets, exposureClosings, exposures}
+use Rattle.book.specs.Layout.{inUse, exposureGivers, exposureTakers, exposureBaskets, exposureClosings, exposures}
 use Rattle.book.specs.State.{State}
 use Rattle.facts.proofs.Sums.{Sums, allNoted}
 use Rattle.rules.specs.Outcome.{given}
@@ -36,7 +36,7 @@ module _ (s : State) (r : List ℕ) (e : ℕ) where
       (write exposureBaskets e (objectIn r) refl (inl refl) (omega arith) row (small .object)
       (write exposureTakers e (takerIn r) refl (inl refl) (omega arith) row (small .taker)
       (write exposureGivers e (giverIn r) refl (inl refl) (omega arith) row (small .giver)
-      (write useds e 1 refl (inl refl) (omega arith) row (omega arith) (unwritten e e (good .fits))))))
+      (write inUse e 1 refl (inl refl) (omega arith) row (omega arith) (unwritten e e (good .fits))))))
 
   -- it is found by its key
   pub given-found : e < 64 → exposureOf with r < 64
@@ -45,7 +45,7 @@ module _ (s : State) (r : List ℕ) (e : ℕ) where
       exposure-found with (giverIn r) (takerIn r) (objectIn r) (closingIn 6 r) e row
       (has-key with (giverIn r) (takerIn r) (objectIn r) (closingIn 6 r) e (rw here) (rw here) (rw here) (rw here) (rw here))
 
-  module _ (good : Good s) (row : e < 64) (unused : s useds e ≡ 0) (none : exposureOf s r ≡ 64) (small : Small 6 r) where
+  module _ (good : Good s) (row : e < 64) (unused : s inUse e ≡ 0) (none : exposureOf s r ≡ 64) (small : Small 6 r) where
     writes : Writes isExposureTable s with e e
     writes = given-writes good row small
 
@@ -58,7 +58,7 @@ module _ (s : State) (r : List ℕ) (e : ℕ) where
       left = λ f i h. writes .apart f i (left-apart f h .1);
       next-low = omega arith;
       next-high = head-facts s (good .facts .head) .next-high;
-      exposure = λ f d h u. other d (λ q. let z : s useds e ≡ 1 = rw q at u in omega arith) f;
+      exposure = λ f d h u. other d (λ q. let z : s inUse e ≡ 1 = rw q at u in omega arith) f;
     }
 
     row-sound : (i : ℕ) → i < 256 → soundRow with i ≡ true
@@ -69,11 +69,11 @@ module _ (s : State) (r : List ℕ) (e : ℕ) where
     here = eq-eqb e e refl
 
     -- no used exposure has the key
-    new-key : (d : ℕ) → d < 64 → (d ≡ e → ⊥) → with useds d ≡ 1 → SameKey with d e → ⊥
+    new-key : (d : ℕ) → d < 64 → (d ≡ e → ⊥) → with inUse d ≡ 1 → SameKey with d e → ⊥
     new-key d l n u k =
         let same : (f x : ℕ) → with f d ≡ x → s f d ≡ x = λ f x q. sym (other d n f) ∙ q in
         exposure-none s (giverIn r) (takerIn r) (objectIn r) (closingIn 6 r) none d l
-        (has-key s (giverIn r) (takerIn r) (objectIn r) (closingIn 6 r) d (same useds 1 u)
+        (has-key s (giverIn r) (takerIn r) (objectIn r) (closingIn 6 r) d (same inUse 1 u)
         (same exposureGivers (giverIn r) (k exposureGivers (omega arith) (omega arith) ∙ rw here))
         (same exposureTakers (takerIn r) (k exposureTakers (omega arith) (omega arith) ∙ rw here))
         (same exposureBaskets (objectIn r) (k exposureBaskets (omega arith) (omega arith) ∙ rw here))
@@ -91,7 +91,7 @@ module _ (s : State) (r : List ℕ) (e : ℕ) where
               elim (ℕ-discrete c e) [
                 | yes n ↦ absurd (new-key d k m u (λ f g o. q f g o ∙ ap (with f) n))
                 | no n ↦
-                    keys-facts s (good .facts .key) d c k l (sym (other d m useds) ∙ u) (sym (other c n useds) ∙ v)
+                    keys-facts s (good .facts .key) d c k l (sym (other d m inUse) ∙ u) (sym (other c n inUse) ∙ v)
                     (λ f g o. sym (other d m f) ∙ q f g o ∙ other c n f)
               ]
         ]

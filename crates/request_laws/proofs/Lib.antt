@@ -9,4 +9,4 @@ pub mod Keeping
 pub mod Order
 pub mod Staying
 pub mod Touching
-pub mod Ways
+pub mod EntryCases

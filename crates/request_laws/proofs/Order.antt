@@ -7,7 +7,7 @@ use Prim.Native.Nat.{ℕ, _+_}
 use native.Mathlib.Decide.{ℕ-discrete}
 use lib.Dec.{ltb}
 use borrow.Author.Tests.{eq-eqb, ne-eqb}
-use Rattle.book.specs.Layout.{nextNumber, numbers, kinds, sides, givers, takers, objects, amounts, settlements, closings, references, partners, pairPartials, useds, exposureGivers, exposureTakers, exposureBaskets, exposureClosings}
+use Rattle.book.specs.Layout.{nextNumber, numbers, kinds, sides, givers, takers, objects, amounts, settlements, closings, references, partners, pairPartials, inUse, exposureGivers, exposureTakers, exposureBaskets, exposureClosings}
 use Rattle.book.specs.State.{State, put}
 use Rattle.rules.specs.Requests.{freeRow}
 use Rattle.rules.specs.Requesting.{sideIn, giverIn, takerIn, objectIn, amountIn, settlementIn, closingIn, referenceIn, takerFollows, earliestEqual, exposureGiven, partialMark, withRow, withTaker, withEqual, waiting, rowsEntered}
@@ -57,11 +57,11 @@ Passes way = (g j y : ℕ) (t : State) → isExposureTable g ≡ true → Is g j
 
 passes-given : (way : State → State) → Passes way → (s : State) (r : List ℕ) (e : ℕ) → exposureGiven (way s) r e ≡ way (exposureGiven s r e)
 passes-given way passes s r e =
-    let s₁ = put s useds e 1 in
+    let s₁ = put s inUse e 1 in
     let s₂ = put s₁ exposureGivers e (giverIn r) in
     let s₃ = put s₂ exposureTakers e (takerIn r) in
     let s₄ = put s₃ exposureBaskets e (objectIn r) in
-    let one : way s₁ ≡ put (way s) useds e 1 = passes useds e 1 s refl .put-in in
+    let one : way s₁ ≡ put (way s) inUse e 1 = passes inUse e 1 s refl .put-in in
     let two = passes exposureGivers e (giverIn r) s₁ refl .put-in ∙ ap (λ (z : State). put z exposureGivers e (giverIn r)) one in
     let three = passes exposureTakers e (takerIn r) s₂ refl .put-in ∙ ap (λ (z : State). put z exposureTakers e (takerIn r)) two in
     let four = passes exposureBaskets e (objectIn r) s₃ refl .put-in ∙ ap (λ (z : State). put z exposureBaskets e (objectIn r)) three in

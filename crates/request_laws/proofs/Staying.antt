@@ -9,7 +9,7 @@ use native.Mathlib.Omega.{arith}
 use lib.Dec.{leb}
 use borrow.Author.Tests.{le-leb, leb-true}
 use Rattle.laws.proofs.Cases.{either}
-use Rattle.book.specs.Layout.{tolerance, maps, numbers, kinds, sides, givers, takers, objects, amounts, settlements, closings, settleds, partners, pairPartials, cancels, ends, useds, exposureGivers, exposureTakers}
+use Rattle.book.specs.Layout.{tolerance, maps, numbers, kinds, sides, givers, takers, objects, amounts, settlements, closings, settledAmounts, partners, pairPartials, cancels, ends, inUse, exposureGivers, exposureTakers}
 use Rattle.book.specs.State.{State}
 use Rattle.rules.specs.Requests.{isUsed, isReturn, isPaired, partnerOf, exposureOfFop}
 use Rattle.rules.specs.Sound.{soundRow}
@@ -56,10 +56,10 @@ module _ {s t : State} (c : Covers s t) (h : Sound s) where
     return-kept : Return s i → Return t i
     return-kept r =
         let o = s objects i in
-        let u : s useds o ≡ 1 = r .exposure-used in
+        let u : s inUse o ≡ 1 = r .exposure-used in
         record {
           exposure-below = rw (same objects refl) (r .exposure-below);
-          exposure-used = rw (same objects refl) (c .exposure useds o refl u ∙ u);
+          exposure-used = rw (same objects refl) (c .exposure inUse o refl u ∙ u);
           giver = rw (same objects refl, same givers refl) (c .exposure exposureGivers o refl u ∙ r .giver);
           taker = rw (same objects refl, same takers refl) (c .exposure exposureTakers o refl u ∙ r .taker);
           amount-low = rw (same amounts refl) (r .amount-low);
@@ -78,7 +78,7 @@ module _ {s t : State} (c : Covers s t) (h : Sound s) where
       parties = rw (same givers refl, same takers refl) (parties-kept c (f .parties));
       kind = kind-kept (f .kind);
       settlement = rw (same settlements refl) (f .settlement);
-      settled = rw (same settleds refl, same amounts refl) (f .settled);
+      settled = rw (same settledAmounts refl, same amounts refl) (f .settled);
       partial = rw (same pairPartials refl) (f .partial);
       cancel = cancel;
       end = end;
@@ -98,7 +98,7 @@ module _ {s t : State} (c : Covers s t) (h : Sound s) where
           amount = both amounts refl (p .amount);
           settlement = both settlements refl (p .settlement);
           closing = both closings refl (p .closing);
-          settled = both settleds refl (p .settled);
+          settled = both settledAmounts refl (p .settled);
           end = end;
           partial = both pairPartials refl (p .partial);
         }
@@ -122,7 +122,7 @@ module _ {s t : State} (c : Covers s t) (h : Sound s) where
         (record { pair = rw partner (pair-kept (partnerOf s i) (follows p .0) (follows p .1) (q .pair)); belongs = belongs-kept (q .belongs) }))
         (λ p.
         let q = used-unpaired s i (h .row i l) u p in
-        unpaired-sound t i used fields (rw (same partners refl) p) (record { settled = same settleds refl ∙ q .settled; partial = same pairPartials refl ∙ q .partial }))
+        unpaired-sound t i used fields (rw (same partners refl) p) (record { settled = same settledAmounts refl ∙ q .settled; partial = same pairPartials refl ∙ q .partial }))
         (either (isPaired s i))
 
   -- an unused row that stays

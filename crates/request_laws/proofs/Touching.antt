@@ -10,7 +10,7 @@ use native.Mathlib.Omega.{arith}
 use lib.Dec.{eqb, leb}
 use borrow.Author.Tests.{lt-leb, leb-true, not-true}
 use Rattle.laws.proofs.Cases.{and-left, and-right, or-left, or-right}
-use Rattle.book.specs.Layout.{nextNumber, numbers, kinds, sides, givers, takers, objects, amounts, settlements, closings, references, partners, pairPartials, ends, useds, exposureClosings, rowsOf, widthOf, tableCount}
+use Rattle.book.specs.Layout.{nextNumber, numbers, kinds, sides, givers, takers, objects, amounts, settlements, closings, references, partners, pairPartials, ends, inUse, exposureClosings, rowsOf, widthOf, tableCount}
 use Rattle.book.specs.State.{State, put, Fits}
 use Rattle.book.proofs.Images.{put-apart, put-cases, put-fits}
 use Rattle.rules.specs.Requesting.{giverIn, takerIn, objectIn, amountIn, settlementIn, closingIn, referenceIn, withRow}
@@ -88,10 +88,10 @@ left-apart f h =
     (or-left (isRowTable f) (isExposureTable f) none, or-right (isRowTable f) (isExposureTable f) none)
 
 pub exposure-no-row : (f : ℕ) → isExposureTable f ≡ true → isRowTable f ≡ false
-exposure-no-row f h = rw (lt-leb f ends (omega (arith, leb-true useds f (and-left (leb useds f) (leb f exposureClosings) h))), and-false)
+exposure-no-row f h = rw (lt-leb f ends (omega (arith, leb-true inUse f (and-left (leb inUse f) (leb f exposureClosings) h))), and-false)
 
 pub row-no-exposure : (f : ℕ) → isRowTable f ≡ true → isExposureTable f ≡ false
-row-no-exposure f h = rw (lt-leb useds f (omega (arith, leb-true f ends (and-right (leb numbers f) (leb f ends) h))))
+row-no-exposure f h = rw (lt-leb inUse f (omega (arith, leb-true f ends (and-right (leb numbers f) (leb f ends) h))))
 
 -- what it is worth: the rest of the book stays, and every other row too, since no row without a partner is another's partner
 module _ {s t : State} {i j : ℕ} (c : Touches s t i j) where

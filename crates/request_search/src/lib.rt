@@ -13,17 +13,17 @@ use book::layout::AMOUNTS;
 use book::layout::CLOSINGS;
 use book::layout::ENDS;
 use book::layout::GIVERS;
+use book::layout::IN_USE;
 use book::layout::KINDS;
 use book::layout::LISTS;
 use book::layout::MODES;
 use book::layout::NUMBERS;
 use book::layout::OBJECTS;
 use book::layout::PARTNERS;
-use book::layout::SETTLEDS;
+use book::layout::SETTLED_AMOUNTS;
 use book::layout::SETTLEMENTS;
 use book::layout::SIDES;
 use book::layout::TAKERS;
-use book::layout::USEDS;
 
 // Is the taker automatic, or does it list the giver?
 pub fn accepts_giver(book: &[u8], taker: usize, giver: u64) -> bool
@@ -109,7 +109,7 @@ fn is_waiting(book: &[u8], i: usize) -> bool
     if book::get(book, ENDS, i) != 0 {
         return false;
     }
-    book::get(book, SETTLEDS, i) < book::get(book, AMOUNTS, i)
+    book::get(book, SETTLED_AMOUNTS, i) < book::get(book, AMOUNTS, i)
 }
 
 // May the record pair with the row i?
@@ -193,7 +193,7 @@ pub fn free_exposure(book: &[u8]) -> usize
 {
     let mut e: usize = 0;
     while e < 64 {
-        if book::get(book, USEDS, e) == 0 {
+        if book::get(book, IN_USE, e) == 0 {
             return e;
         }
         e += 1;
@@ -209,7 +209,7 @@ fn is_open_or_whole(book: &[u8], i: usize) -> bool
     if book::get(book, ENDS, i) == 0 {
         return true;
     }
-    book::get(book, AMOUNTS, i) <= book::get(book, SETTLEDS, i)
+    book::get(book, AMOUNTS, i) <= book::get(book, SETTLED_AMOUNTS, i)
 }
 
 // Is the participant the request's owner: the giver of side 0, the taker of side 1?

@@ -1,4 +1,4 @@
-pub mod CodeWays
+pub mod CodeReturns
 pub mod Legal
-pub mod Rooms
-pub mod StepWays
+pub mod Capacity
+pub mod StepReturns

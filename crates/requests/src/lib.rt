@@ -20,7 +20,7 @@ use book::layout::MODES;
 use book::layout::NEXT_NUMBER;
 use book::layout::NUMBERS;
 use book::layout::PARTNERS;
-use book::layout::SETTLEDS;
+use book::layout::SETTLED_AMOUNTS;
 use book::layout::SIDES;
 use book::layout::TAKERS;
 use book::layout::TOLERANCE;
@@ -134,7 +134,7 @@ pub fn cancel_code(book: &[u8], fields: &[u64; 8]) -> u64
     if i == 256 {
         return 12;
     }
-    if book::get(book, SETTLEDS, i) != 0 {
+    if book::get(book, SETTLED_AMOUNTS, i) != 0 {
         return 13;
     }
     0

@@ -8,7 +8,7 @@ use lib.Dec.{eqb, leb, ltb}
 use lib.ListN.{getD}
 use Rattle.laws.specs.Search.{count}
 use Rattle.calendar.specs.Target.{lastDay, openDay, nextOpenDay}
-use Rattle.book.specs.Layout.{today, tolerance, nextNumber, lots, numbers, settleds, useds, exposureGivers, exposureTakers, accounts, positions}
+use Rattle.book.specs.Layout.{today, tolerance, nextNumber, lots, numbers, settledAmounts, inUse, exposureGivers, exposureTakers, accounts, positions}
 use Rattle.book.specs.State.{State}
 use Rattle.rules.specs.Marking.{recallAccepted}
 use Rattle.rules.specs.Outcome.{Rule, rule, lowest, field}
@@ -94,7 +94,7 @@ returnRules s r =
     ∷ rule (ltb (settlementIn r) (s today 0)) 7
     ∷ giverIsTaker r
     ∷ takerNeedsNone s r
-    ∷ rule (not (eqb (s useds (objectIn r)) 1 && (eqb (s exposureGivers (objectIn r)) (giverIn r) && eqb (s exposureTakers (objectIn r)) (takerIn r)))) 12
+    ∷ rule (not (eqb (s inUse (objectIn r)) 1 && (eqb (s exposureGivers (objectIn r)) (giverIn r) && eqb (s exposureTakers (objectIn r)) (takerIn r)))) 12
     ∷ tooFewRows s r
     ∷ []
 
@@ -103,7 +103,7 @@ unfoldable pub cancelRules : State → List ℕ → List Rule
 cancelRules s r =
     noParticipant s (field r 0)
     ∷ rule (eqb (ownRequest s (field r 0) (field r 1)) 256) 12
-    ∷ rule (not (eqb (s settleds (ownRequest s (field r 0) (field r 1))) 0)) 13
+    ∷ rule (not (eqb (s settledAmounts (ownRequest s (field r 0) (field r 1))) 0)) 13
     ∷ []
 
 -- 11: "recall of a set-up security not in its whole lots"; "For kind 11, 12 comes before 10"
@@ -112,7 +112,7 @@ recallRules s r =
     rule (securitySetUp s (field r 2) && not (eqb (field r 3 % s lots (field r 2)) 0)) 4
     ∷ noParticipant s (field r 0)
     ∷ noSecurity s (field r 2)
-    ∷ rule (not (eqb (s useds (field r 1)) 1 && eqb (s exposureGivers (field r 1)) (field r 0))) 12
+    ∷ rule (not (eqb (s inUse (field r 1)) 1 && eqb (s exposureGivers (field r 1)) (field r 0))) 12
     ∷ rule (ltb (s positions (64 * field r 1 + field r 2)) (field r 3)) 10
     ∷ rule (not (recallAccepted s r)) 16
     ∷ []

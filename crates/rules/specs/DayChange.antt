@@ -7,7 +7,7 @@ use lib.Dec.{eqb, leb}
 use Rattle.laws.specs.Search.{all, count}
 use Rattle.laws.specs.Sum.{sum}
 use Rattle.calendar.specs.Target.{nextOpenDay}
-use Rattle.book.specs.Layout.{today, modes, lists, partials, waitingModes, waitingLists, waitingPartials, numbers, kinds, sides, givers, takers, objects, amounts, settlements, closings, references, settleds, partners, pairPartials, cancels, ends, useds, exposureGivers, exposureTakers, exposureBaskets, exposureClosings, exposures}
+use Rattle.book.specs.Layout.{today, modes, lists, partials, waitingModes, waitingLists, waitingPartials, numbers, kinds, sides, givers, takers, objects, amounts, settlements, closings, references, settledAmounts, partners, pairPartials, cancels, ends, inUse, exposureGivers, exposureTakers, exposureBaskets, exposureClosings, exposures}
 use Rattle.book.specs.State.{State, put}
 use Rattle.rules.specs.Outcome.{Step, Event, closed}
 use Rattle.rules.specs.Requests.{isUsed, isFop, isReturn, isPaired, isWhole, hasKey}
@@ -36,7 +36,7 @@ abbrev pub blanked : State → ℕ → State
 blanked s i =
     put (put (put (put (put (put (put (put (put (put (put (put (put (put (put s
     numbers i 0) kinds i 0) sides i 0) givers i 0) takers i 0) objects i 0) amounts i 0) settlements i 0) closings i 0)
-    references i 0) settleds i 0) partners i 0) pairPartials i 0) cancels i 0) ends i 0
+    references i 0) settledAmounts i 0) partners i 0) pairPartials i 0) cancels i 0) ends i 0
 
 -- a step on each of the numbers below n that pass a test, in rising order
 unfoldable pub onEach : (ℕ → Bool) → (State → ℕ → State) → ℕ → State → State
@@ -60,7 +60,7 @@ profilesChanged s = onEach (λ p. not (eqb (s waitingModes p) 0)) changeTakesEff
 
 -- "zero exposures with closing date reached, give back their positions"
 abbrev pub isExposureClosed : State → ℕ → ℕ → Bool
-isExposureClosed s day e = eqb (s useds e) 1 && isReached day (s exposureClosings e)
+isExposureClosed s day e = eqb (s inUse e) 1 && isReached day (s exposureClosings e)
 
 -- one of them: its position given back, its amount zeroed
 abbrev pub exposureClosed : State → ℕ → State
@@ -79,11 +79,11 @@ belongs s e i =
 
 -- "free exposures of amount 0 to which no row belongs"
 abbrev pub isIdle : State → ℕ → Bool
-isIdle s e = eqb (s useds e) 1 && (eqb (s exposures e) 0 && all (λ i. not (belongs s e i)) 256 0)
+isIdle s e = eqb (s inUse e) 1 && (eqb (s exposures e) 0 && all (λ i. not (belongs s e i)) 256 0)
 
 -- one of them: its row holds nothing
 abbrev pub exposureFreed : State → ℕ → State
-exposureFreed s e = put (put (put (put (put s useds e 0) exposureGivers e 0) exposureTakers e 0) exposureBaskets e 0) exposureClosings e 0
+exposureFreed s e = put (put (put (put (put s inUse e 0) exposureGivers e 0) exposureTakers e 0) exposureBaskets e 0) exposureClosings e 0
 
 -- all of them
 unfoldable pub exposuresFreed : State → State
@@ -97,9 +97,9 @@ dayChanged s =
     exposuresFreed (exposuresClosed (profilesChanged (put (rowsDropped s day) today 0 day)) day)
 
 -- what the ledger is told: the amount of each exposure that is closed
-unfoldable pub closings12 : State → ℕ → ℕ → List Event
-closings12 s day zero = []
-closings12 s day (suc e) = closings12 s day e ++ cond (isExposureClosed s day e) (closed e (s exposures e) ∷ []) []
+unfoldable pub closingEvents : State → ℕ → ℕ → List Event
+closingEvents s day zero = []
+closingEvents s day (suc e) = closingEvents s day e ++ cond (isExposureClosed s day e) (closed e (s exposures e) ∷ []) []
 
 -- 12: "A: new day, B: rows dropped, M: amounts closed."
 unfoldable pub nextDay : State → Step
@@ -110,5 +110,5 @@ nextDay s =
       b = count (isDropped s day) 256 0;
       m = sum (λ e. cond (isExposureClosed s day e) (s exposures e) 0) 64;
       state = dayChanged s;
-      events = closings12 s day 64;
+      events = closingEvents s day 64;
     }

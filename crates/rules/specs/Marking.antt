@@ -8,7 +8,7 @@ use lib.ListN.{set, replicate}
 use Rattle.laws.specs.Filled.{filled}
 use Rattle.laws.specs.Search.{all, count}
 use Rattle.laws.specs.Sum.{sum}
-use Rattle.book.specs.Layout.{tolerance, positions, useds, exposures}
+use Rattle.book.specs.Layout.{tolerance, positions, inUse, exposures}
 use Rattle.book.specs.State.{State}
 use Rattle.picking.specs.Pick.{butNot}
 use Rattle.picking.specs.declared.Outcome.{Outcome}
@@ -20,7 +20,7 @@ unfoldable pub onExposures : (State → ℕ → State) → ℕ → State → Sta
 onExposures step zero s = s
 onExposures step (suc e) s =
     let t = onExposures step e s in
-    cond (eqb (t useds e) 1) (step t e) t
+    cond (eqb (t inUse e) 1) (step t e) t
 
 -- "give back ineligible securities": the whole nominal of each
 abbrev pub ineligibleOf : State → ℕ → List ℕ
@@ -51,7 +51,7 @@ moved s t e = not (all (λ i. eqb (s positions (64 * e + i)) (t positions (64 * 
 
 -- what is missing of a used exposure
 abbrev pub missingOf : State → ℕ → ℕ
-missingOf s e = cond (eqb (s useds e) 1) (s exposures e - valueOf s e) 0
+missingOf s e = cond (eqb (s inUse e) 1) (s exposures e - valueOf s e) 0
 
 -- 10: "A: exposures that gave back, B: exposures that took in, M: total missing after."
 unfoldable pub marked : State → Step

@@ -8,7 +8,7 @@ use lib.Dec.{eqb, leb}
 use lib.ListN.{length, replicate}
 use Rattle.laws.specs.Bits.{hasBit}
 use Rattle.laws.specs.Search.{least, count}
-use Rattle.book.specs.Layout.{bookLength, maps, ages, numbers, kinds, sides, givers, takers, objects, amounts, settlements, closings, references, settleds, pairPartials, cancels, ends, useds, exposureGivers, exposureTakers, exposureBaskets, exposureClosings, exposures, accounts, positions}
+use Rattle.book.specs.Layout.{bookLength, maps, ages, numbers, kinds, sides, givers, takers, objects, amounts, settlements, closings, references, settledAmounts, pairPartials, cancels, ends, inUse, exposureGivers, exposureTakers, exposureBaskets, exposureClosings, exposures, accounts, positions}
 use Rattle.book.specs.State.{State, state}
 use Rattle.rules.specs.Outcome.{Rule, rule, lowest}
 use Rattle.rules.specs.Requests.{isUsed, isPaired, partnerOf}
@@ -30,8 +30,8 @@ rowOf s n = least (λ i. isUsed s i && eqb (s numbers i) n) 256 0
 -- 4 and 5 of each
 abbrev pub readRules : State → Read → List Rule
 readRules s (account p i) = rule (leb 32 p || leb 64 i) 4 ∷ rule (not (participantSetUp s p && securitySetUp s i)) 5 ∷ []
-readRules s (position e i) = rule (leb 64 e || leb 64 i) 4 ∷ rule (not (eqb (s useds e) 1 && securitySetUp s i)) 5 ∷ []
-readRules s (exposure e) = rule (leb 64 e) 4 ∷ rule (not (eqb (s useds e) 1)) 5 ∷ []
+readRules s (position e i) = rule (leb 64 e || leb 64 i) 4 ∷ rule (not (eqb (s inUse e) 1 && securitySetUp s i)) 5 ∷ []
+readRules s (exposure e) = rule (leb 64 e) 4 ∷ rule (not (eqb (s inUse e) 1)) 5 ∷ []
 readRules s (request n) = rule (eqb (rowOf s n) 256) 5 ∷ []
 readRules s (basket b) = rule (leb 16 b) 4 ∷ rule (not (basketSetUp s b)) 5 ∷ []
 
@@ -51,7 +51,7 @@ readValues s (position e i) = s positions (64 * e + i) ∷ []
 readValues s (exposure e) = s exposureGivers e ∷ s exposureTakers e ∷ s exposureBaskets e ∷ s exposureClosings e ∷ s exposures e ∷ []
 readValues s (request n) =
     let i = rowOf s n in
-    s kinds i ∷ s sides i ∷ s givers i ∷ s takers i ∷ s objects i ∷ s amounts i ∷ s settlements i ∷ s closings i ∷ s references i ∷ s settleds i
+    s kinds i ∷ s sides i ∷ s givers i ∷ s takers i ∷ s objects i ∷ s amounts i ∷ s settlements i ∷ s closings i ∷ s references i ∷ s settledAmounts i
     ∷ partnerNumber s i ∷ s pairPartials i ∷ s cancels i ∷ s ends i ∷ []
 readValues s (basket b) = s maps b ∷ s ages b ∷ count (hasBit (s maps b)) 64 0 ∷ least (hasBit (s maps b)) 64 0 ∷ []
 

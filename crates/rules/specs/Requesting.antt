@@ -5,7 +5,7 @@ use mathlib.Core.List.{List, [], _∷_}
 use Prim.Native.Nat.{ℕ, _+_}
 use lib.Dec.{eqb, ltb}
 use Rattle.laws.specs.Search.{least, leastBy}
-use Rattle.book.specs.Layout.{nextNumber, numbers, kinds, sides, givers, takers, objects, amounts, settlements, closings, references, partners, pairPartials, cancels, ends, useds, exposureGivers, exposureTakers, exposureBaskets, exposureClosings}
+use Rattle.book.specs.Layout.{nextNumber, numbers, kinds, sides, givers, takers, objects, amounts, settlements, closings, references, partners, pairPartials, cancels, ends, inUse, exposureGivers, exposureTakers, exposureBaskets, exposureClosings}
 use Rattle.book.specs.State.{State, put}
 use Rattle.rules.specs.Outcome.{Step, silent, given, field}
 use Rattle.rules.specs.Requests.{isUsed, isPaired, partnerOf, isWhole, isLive, isOwner, acceptsGiver, allowPartial, exposureWith, freeExposure, freeRow}
@@ -74,7 +74,7 @@ needsExposure s k r = eqb k 6 && (pairsNow s k r && eqb (exposureOf s r) 64)
 -- the exposure row e given out, under the key of the record
 abbrev pub exposureGiven : State → List ℕ → ℕ → State
 exposureGiven s r e =
-    put (put (put (put (put s useds e 1) exposureGivers e (giverIn r)) exposureTakers e (takerIn r)) exposureBaskets e (objectIn r)) exposureClosings e (closingIn 6 r)
+    put (put (put (put (put s inUse e 1) exposureGivers e (giverIn r)) exposureTakers e (takerIn r)) exposureBaskets e (objectIn r)) exposureClosings e (closingIn 6 r)
 
 -- a row with the record's fields, a number, a side, a partner's mark (0 for none) and the pair's partial mark
 unfoldable pub withRow : State → ℕ → List ℕ → ℕ → ℕ → ℕ → ℕ → ℕ → State

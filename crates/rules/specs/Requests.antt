@@ -5,7 +5,7 @@ use Prim.Native.Nat.{ℕ, _-_}
 use lib.Dec.{eqb, leb}
 use Rattle.laws.specs.Bits.{hasBit}
 use Rattle.laws.specs.Search.{least}
-use Rattle.book.specs.Layout.{modes, lists, partials, numbers, kinds, sides, givers, takers, objects, amounts, closings, settleds, partners, ends, useds, exposureGivers, exposureTakers, exposureBaskets, exposureClosings}
+use Rattle.book.specs.Layout.{modes, lists, partials, numbers, kinds, sides, givers, takers, objects, amounts, closings, settledAmounts, partners, ends, inUse, exposureGivers, exposureTakers, exposureBaskets, exposureClosings}
 use Rattle.book.specs.State.{State}
 
 -- the row is used: it has a request's number
@@ -27,10 +27,10 @@ partnerOf s i = s partners i - 1
 
 -- settled whole; what is left to settle
 abbrev pub isWhole : State → ℕ → Bool
-isWhole s i = leb (s amounts i) (s settleds i)
+isWhole s i = leb (s amounts i) (s settledAmounts i)
 
 abbrev pub restOf : State → ℕ → ℕ
-restOf s i = s amounts i - s settleds i
+restOf s i = s amounts i - s settledAmounts i
 
 -- "A request is live until it ends or has settled whole."
 abbrev pub isLive : State → ℕ → Bool
@@ -51,14 +51,14 @@ allowPartial s giver taker = eqb (s partials giver) 1 && eqb (s partials taker) 
 -- an exposure row with a key: "its giver, taker, basket and closing date"
 abbrev pub hasKey : State → ℕ → ℕ → ℕ → ℕ → ℕ → Bool
 hasKey s giver taker basket closing e =
-    eqb (s useds e) 1 && (eqb (s exposureGivers e) giver && (eqb (s exposureTakers e) taker && (eqb (s exposureBaskets e) basket && eqb (s exposureClosings e) closing)))
+    eqb (s inUse e) 1 && (eqb (s exposureGivers e) giver && (eqb (s exposureTakers e) taker && (eqb (s exposureBaskets e) basket && eqb (s exposureClosings e) closing)))
 
 -- the row of that exposure, 64 where there is none; and the lowest free row
 abbrev pub exposureWith : State → ℕ → ℕ → ℕ → ℕ → ℕ
 exposureWith s giver taker basket closing = least (hasKey s giver taker basket closing) 64 0
 
 abbrev pub freeExposure : State → ℕ
-freeExposure s = least (λ e. eqb (s useds e) 0) 64 0
+freeExposure s = least (λ e. eqb (s inUse e) 0) 64 0
 
 -- the lowest request row that is not used, 256 where there is none
 abbrev pub freeRow : State → ℕ

@@ -5,7 +5,7 @@ use mathlib.Core.List.{List, [], _∷_, _++_}
 use Prim.Native.Nat.{ℕ, zero, suc, _+_, _*_, _-_, min}
 use lib.Dec.{eqb, leb, ltb}
 use Rattle.laws.specs.Search.{leastBy}
-use Rattle.book.specs.Layout.{today, tolerance, numbers, kinds, objects, settlements, settleds, pairPartials, exposures}
+use Rattle.book.specs.Layout.{today, tolerance, numbers, kinds, objects, settlements, settledAmounts, pairPartials, exposures}
 use Rattle.book.specs.State.{State, put}
 use Rattle.rules.specs.Outcome.{Step, Event, settled, returned}
 use Rattle.rules.specs.Requests.{isLive, isPaired, partnerOf, restOf, exposureOfFop}
@@ -34,7 +34,7 @@ nextDue s kind last = leastBy (isDue s kind last) (orderOf s) 256 256
 
 -- both rows of a pair have settled so much more
 abbrev pub bothSettled : State → ℕ → ℕ → State
-bothSettled s i x = put (put s settleds i (s settleds i + x)) settleds (partnerOf s i) (s settleds (partnerOf s i) + x)
+bothSettled s i x = put (put s settledAmounts i (s settledAmounts i + x)) settledAmounts (partnerOf s i) (s settledAmounts (partnerOf s i) + x)
 
 -- "A return settles the lesser of its rest and the exposure, lowers the exposure and Frees."
 abbrev pub returnAmount : State → ℕ → ℕ

@@ -8,7 +8,7 @@ use lib.Dec.{eqb, leb, ltb}
 use Rattle.laws.specs.Search.{all}
 use Rattle.laws.specs.Sum.{sum}
 use Rattle.calendar.specs.Target.{openDay}
-use Rattle.book.specs.Layout.{today, tolerance, nextNumber, lots, prices, haircuts, quotes, modes, lists, partials, waitingModes, waitingLists, waitingPartials, ages, numbers, kinds, sides, givers, takers, objects, amounts, settlements, closings, settleds, partners, pairPartials, cancels, ends, useds, exposureGivers, exposureTakers, exposureBaskets, exposureClosings, exposures, accounts, positions, spares}
+use Rattle.book.specs.Layout.{today, tolerance, nextNumber, lots, prices, haircuts, quotes, modes, lists, partials, waitingModes, waitingLists, waitingPartials, ages, numbers, kinds, sides, givers, takers, objects, amounts, settlements, closings, settledAmounts, partners, pairPartials, cancels, ends, inUse, exposureGivers, exposureTakers, exposureBaskets, exposureClosings, exposures, accounts, positions, spares}
 use Rattle.book.specs.State.{State}
 use Rattle.rules.specs.Stock.{participantSetUp, securitySetUp, basketSetUp}
 use Rattle.rules.specs.Requests.{isUsed, isFop, isReturn, isPaired, partnerOf, exposureOfFop}
@@ -58,7 +58,7 @@ basketNamed s b = ltb b 16 && basketSetUp s b
 abbrev pub returnNames : State → ℕ → Bool
 returnNames s i =
     ltb (s objects i) 64
-    && (eqb (s useds (s objects i)) 1 && (eqb (s exposureGivers (s objects i)) (s givers i) && eqb (s exposureTakers (s objects i)) (s takers i)))
+    && (eqb (s inUse (s objects i)) 1 && (eqb (s exposureGivers (s objects i)) (s givers i) && eqb (s exposureTakers (s objects i)) (s takers i)))
 
 -- the kind's own fields: a FOP's basket, amount and closing; a return's exposure and amount
 abbrev pub soundFop : State → ℕ → Bool
@@ -73,7 +73,7 @@ soundKind s i = (isFop s i && soundFop s i) || (isReturn s i && soundReturn s i)
 
 -- "no row has settled more than its amount"; the marks of a row
 abbrev pub soundMarks : State → ℕ → Bool
-soundMarks s i = leb (s settleds i) (s amounts i) && (leb (s pairPartials i) 1 && (leb (s cancels i) 1 && leb (s ends i) 1))
+soundMarks s i = leb (s settledAmounts i) (s amounts i) && (leb (s pairPartials i) 1 && (leb (s cancels i) 1 && leb (s ends i) 1))
 
 -- the fields of a row in their ranges; "request numbers .. below the next to be given"
 abbrev pub soundFields : State → ℕ → Bool
@@ -93,7 +93,7 @@ blank s n from i = all (λ f. eqb (s f i) 0) n from
 
 -- "settled amount and end equal", and the partial mark, which is the pair's
 abbrev pub marksAlike : State → ℕ → ℕ → Bool
-marksAlike s i j = same s settleds i j && (same s ends i j && same s pairPartials i j)
+marksAlike s i j = same s settledAmounts i j && (same s ends i j && same s pairPartials i j)
 
 -- "paired rows name each other, their sides opposite, their kind, other record fields but reference, settled amount and end equal":
 -- the six tables from the givers on are giver, taker, basket or exposure, amount, settlement and closing
@@ -110,7 +110,7 @@ soundPaired s i = soundPair s i (partnerOf s i) && (isReturn s i || ltb (exposur
 
 -- "an unpaired one [has settled] nothing"
 abbrev pub soundUnpaired : State → ℕ → Bool
-soundUnpaired s i = eqb (s settleds i) 0 && eqb (s pairPartials i) 0
+soundUnpaired s i = eqb (s settledAmounts i) 0 && eqb (s pairPartials i) 0
 
 -- an unused row holds nothing, in the fourteen tables from the kinds on
 abbrev pub blankRow : State → ℕ → Bool
@@ -130,28 +130,28 @@ distinctNumber s i = eqb (s numbers i) 0 || all (differs s i) i 0
 -- of an exposure: "exposures are at most 10^13"; an unused row holds nothing, in the five tables from the givers on
 abbrev pub soundExposure : State → ℕ → Bool
 soundExposure s e =
-    cond (eqb (s useds e) 0)
+    cond (eqb (s inUse e) 0)
     (blank s 5 exposureGivers e)
-    (eqb (s useds e) 1
+    (eqb (s inUse e) 1
     && (soundParties s (s exposureGivers e) (s exposureTakers e)
     && (basketNamed s (s exposureBaskets e) && (openOrNone (s exposureClosings e) && leb (s exposures e) 10000000000000))))
 
 -- "used exposures have distinct keys", giver, taker, basket and closing: of the row e against the rows before it
 abbrev pub otherKey : State → ℕ → ℕ → Bool
-otherKey s e d = not (eqb (s useds d) 1 && alike s 4 exposureGivers e d)
+otherKey s e d = not (eqb (s inUse d) 1 && alike s 4 exposureGivers e d)
 
 abbrev pub distinctKey : State → ℕ → Bool
-distinctKey s e = eqb (s useds e) 0 || all (otherKey s e) e 0
+distinctKey s e = eqb (s inUse e) 0 || all (otherKey s e) e 0
 
 -- "positions stand only in used exposures and in whole lots of securities set up; an exposure of amount 0 has no position"
 abbrev pub soundPosition : State → ℕ → ℕ → Bool
 soundPosition s e i =
     eqb (s positions (64 * e + i)) 0
-    || (eqb (s useds e) 1 && (not (eqb (s exposures e) 0) && (securitySetUp s i && eqb (s positions (64 * e + i) % s lots i) 0)))
+    || (eqb (s inUse e) 1 && (not (eqb (s exposures e) 0) && (securitySetUp s i && eqb (s positions (64 * e + i) % s lots i) 0)))
 
 -- "account plus positions of a giver in one security"
 abbrev pub positionFrom : State → ℕ → ℕ → ℕ → ℕ
-positionFrom s p i e = cond (eqb (s useds e) 1 && eqb (s exposureGivers e) p) (s positions (64 * e + i)) 0
+positionFrom s p i e = cond (eqb (s inUse e) 1 && eqb (s exposureGivers e) p) (s positions (64 * e + i)) 0
 
 unfoldable pub holding : State → ℕ → ℕ → ℕ
 holding s p i = s accounts (64 * p + i) + sum (positionFrom s p i) 64

@@ -1,4 +1,4 @@
--- What each way out of the tests of a host's numbers shows, and what the tests are worth to the functions behind them.
+-- What each return of the tests of a host's numbers shows, and what the tests are worth to the functions behind them.
 -- Assumes nothing.
 use mathlib.Core.Path.{_≡_}
 use mathlib.Core.Bool.{Bool, true, false, _&&_, _||_, and-false, and-true, or-false}

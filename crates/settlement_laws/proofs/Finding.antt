@@ -7,7 +7,7 @@ use Prim.Native.Nat.{ℕ, _≤_, _<_}
 use lib.Dec.{eqb, leb, ltb}
 use borrow.Author.Tests.{eqb-true, leb-true, ltb-true, not-true}
 use Rattle.laws.proofs.Cases.{and-left}
-use Rattle.book.specs.Layout.{today, numbers, kinds, givers, takers, objects, settlements, closings, ends, useds, exposureGivers, exposureTakers, exposureBaskets, exposureClosings}
+use Rattle.book.specs.Layout.{today, numbers, kinds, givers, takers, objects, settlements, closings, ends, inUse, exposureGivers, exposureTakers, exposureBaskets, exposureClosings}
 use Rattle.book.specs.State.{State}
 use Rattle.facts.proofs.Searches.{least-holds, found-by}
 use Rattle.facts.proofs.Truth.{split}
@@ -45,11 +45,11 @@ due-row s kind last h =
     }
 
 -- the exposure of a FOP, where there is one, is used
-pub exposure-used : (s : State) (i : ℕ) → exposureOfFop s i < 64 → s useds (exposureOfFop s i) ≡ 1
+pub exposure-used : (s : State) (i : ℕ) → exposureOfFop s i < 64 → s inUse (exposureOfFop s i) ≡ 1
 exposure-used s i h =
     let e = exposureOfFop s i in
     let key = hasKey s (s givers i) (s takers i) (s objects i) (s closings i) in
-    eqb-true (s useds e) 1
-    (and-left (eqb (s useds e) 1)
+    eqb-true (s inUse e) 1
+    (and-left (eqb (s inUse e) 1)
     (eqb (s exposureGivers e) (s givers i) && (eqb (s exposureTakers e) (s takers i) && (eqb (s exposureBaskets e) (s objects i) && eqb (s exposureClosings e) (s closings i))))
     (least-holds key 64 0 h))

@@ -10,7 +10,7 @@ use lib.Dec.{eqb}
 use borrow.Author.Tests.{eq-eqb, ne-eqb, eqb-true, eqb-false, le-leb, not-true, not-false}
 use Rattle.laws.specs.Search.{all}
 use Rattle.laws.proofs.Cases.{either}
-use Rattle.book.specs.Layout.{sides, amounts, settleds, partners}
+use Rattle.book.specs.Layout.{sides, amounts, settledAmounts, partners}
 use Rattle.book.specs.State.{State, put}
 use Rattle.book.proofs.Images.{put-cases, put-fits}
 use Rattle.rules.specs.Requests.{isUsed, isPaired, partnerOf, restOf}
@@ -51,18 +51,18 @@ module _ (s : State) (i x : ℕ) (h : Good s) (below : i < 256) (used : isUsed s
   )
 
   -- what they have settled
-  own-settled : after settleds i ≡ s settleds i + x
+  own-settled : after settledAmounts i ≡ s settledAmounts i + x
   own-settled = rw (eq-eqb i i refl, ne-eqb i partner two)
 
-  partner-settled : after settleds partner ≡ s settleds i + x
+  partner-settled : after settledAmounts partner ≡ s settledAmounts i + x
   partner-settled = rw (eq-eqb partner partner refl) (omega (arith, pair .settled))
 
   -- any other row is as it was
   other-row : (k : ℕ) → (k ≡ i → ⊥) → (k ≡ partner → ⊥) → (f : ℕ) → after f k ≡ s f k
   other-row k n m f =
-      let one = put s settleds i (s settleds i + x) in
-      put-cases one settleds partner (s settleds partner + x) (λ (y : ℕ). y ≡ s f k) f k (λ a b. absurd (m b))
-      (λ a. put-cases s settleds i (s settleds i + x) (λ (y : ℕ). y ≡ s f k) f k (λ b c. absurd (n c)) (λ b. refl))
+      let one = put s settledAmounts i (s settledAmounts i + x) in
+      put-cases one settledAmounts partner (s settledAmounts partner + x) (λ (y : ℕ). y ≡ s f k) f k (λ a b. absurd (m b))
+      (λ a. put-cases s settledAmounts i (s settledAmounts i + x) (λ (y : ℕ). y ≡ s f k) f k (λ b c. absurd (n c)) (λ b. refl))
 
   -- a row that names no partner is neither of the two
   alone : (k : ℕ) → s partners k ≡ 0 → (k ≡ i → ⊥) × (k ≡ partner → ⊥)
@@ -71,29 +71,29 @@ module _ (s : State) (i x : ℕ) (h : Good s) (below : i < 256) (used : isUsed s
     λ q. let z : s partners partner ≡ 0 = rw q at e in omega (arith, pair .named),
   )
 
-  alone-settled : (k : ℕ) → s partners k ≡ 0 → s settleds k ≡ 0 → after settleds k ≡ 0
-  alone-settled k e z = other-row k (alone k e .0) (alone k e .1) settleds ∙ z
+  alone-settled : (k : ℕ) → s partners k ≡ 0 → s settledAmounts k ≡ 0 → after settledAmounts k ≡ 0
+  alone-settled k e z = other-row k (alone k e .0) (alone k e .1) settledAmounts ∙ z
 
   -- partners have settled the same
-  same-settled : (k : ℕ) → Pair s k (partnerOf s k) → after settleds k ≡ after settleds (partnerOf s k)
+  same-settled : (k : ℕ) → Pair s k (partnerOf s k) → after settledAmounts k ≡ after settledAmounts (partnerOf s k)
   same-settled k r =
       elim (ℕ-discrete k i) [
         | yes q ↦ rw q (own-settled ∙ sym partner-settled)
         | no n ↦ elim (ℕ-discrete k partner) [
           | yes q ↦ let back : partnerOf s partner ≡ i = omega (arith, pair .named) in rw (q, back) (partner-settled ∙ sym own-settled)
-          | no m ↦ let c = third k n m (r .named) in other-row k n m settleds ∙ r .settled ∙ sym (other-row (partnerOf s k) (c .0) (c .1) settleds)
+          | no m ↦ let c = third k n m (r .named) in other-row k n m settledAmounts ∙ r .settled ∙ sym (other-row (partnerOf s k) (c .0) (c .1) settledAmounts)
         ]
       ]
 
   module _ (small : x ≤ restOf s i) where
     -- no row has settled more than its amount
-    settled-within : (k : ℕ) → s settleds k ≤ s amounts k → after settleds k ≤ s amounts k
+    settled-within : (k : ℕ) → s settledAmounts k ≤ s amounts k → after settledAmounts k ≤ s amounts k
     settled-within k l =
         elim (ℕ-discrete k i) [
           | yes q ↦ rw (q, own-settled) (omega (arith, fields .settled))
           | no n ↦ elim (ℕ-discrete k partner) [
             | yes q ↦ rw (q, partner-settled) (omega (arith, fields .settled, pair .amount))
-            | no m ↦ rw (other-row k n m settleds) l
+            | no m ↦ rw (other-row k n m settledAmounts) l
           ]
         ]
 
@@ -102,8 +102,8 @@ module _ (s : State) (i x : ℕ) (h : Good s) (below : i < 256) (used : isUsed s
     unfolding all
     row k l =
         let old = h .facts .row k l in
-        let was = s settleds k in
-        let now = after settleds k in
+        let was = s settledAmounts k in
+        let now = after settledAmounts k in
         ⊎-elim
         (λ u.
         let within = used-fields s k old u .settled in
@@ -112,7 +112,7 @@ module _ (s : State) (i x : ℕ) (h : Good s) (below : i < 256) (used : isUsed s
         ⊎-elim
         (λ p.
         let r = used-paired s k old u p .pair in
-        rw (u, p, high, eq-eqb now (after settleds (partnerOf s k)) (same-settled k r)) (rw (u, p, low, eq-eqb was (s settleds (partnerOf s k)) (r .settled)) at old))
+        rw (u, p, high, eq-eqb now (after settledAmounts (partnerOf s k)) (same-settled k r)) (rw (u, p, low, eq-eqb was (s settledAmounts (partnerOf s k)) (r .settled)) at old))
         (λ p.
         let none = used-unpaired s k old u p .settled in
         let lone : s partners k ≡ 0 = eqb-true (s partners k) 0 (not-false (eqb (s partners k) 0) p) in
@@ -129,7 +129,7 @@ module _ (s : State) (i x : ℕ) (h : Good s) (below : i < 256) (used : isUsed s
     good-both =
         let f = h .facts in
         let most = amount-le s i (fields .kind) in
-        let more : s settleds i + x < 256 ^ 8 = omega (arith, fields .settled) in
+        let more : s settledAmounts i + x < 256 ^ 8 = omega (arith, fields .settled) in
         record {
           facts = record {
             head = f .head;
@@ -145,6 +145,6 @@ module _ (s : State) (i x : ℕ) (h : Good s) (below : i < 256) (used : isUsed s
             held = f .held;
           };
           fits =
-              put-fits (put s settleds i (s settleds i + x)) settleds partner (s settleds partner + x)
-              (put-fits s settleds i (s settleds i + x) (h .fits) (omega arith) below more) (omega arith) (pair .partner-below) (rw (← pair .settled) more);
+              put-fits (put s settledAmounts i (s settledAmounts i + x)) settledAmounts partner (s settledAmounts partner + x)
+              (put-fits s settledAmounts i (s settledAmounts i + x) (h .fits) (omega arith) below more) (omega arith) (pair .partner-below) (rw (← pair .settled) more);
         }

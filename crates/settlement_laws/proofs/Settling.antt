@@ -10,7 +10,7 @@ use native.Mathlib.Omega.{arith}
 use lib.Dec.{eqb, ltb}
 use borrow.Author.Tests.{eqb-true, ltb-false}
 use Rattle.laws.proofs.Cases.{either}
-use Rattle.book.specs.Layout.{tolerance, kinds, objects, pairPartials, useds, exposureGivers, exposures, accounts, positions}
+use Rattle.book.specs.Layout.{tolerance, kinds, objects, pairPartials, inUse, exposureGivers, exposures, accounts, positions}
 use Rattle.book.specs.State.{State, put, lowered, Raisable, Lowerable}
 use Rattle.book.proofs.Images.{put-same, put-other}
 use Rattle.rules.specs.Requests.{isUsed, isFop, isReturn, isPaired, restOf, exposureOfFop}
@@ -130,7 +130,7 @@ module _ (s : State) (i : ℕ) (h : Good s) (below : i < 256) (used : isUsed s i
         (λ l. l)
         (used-paired s i (h .facts .row i below) used paired .belongs)
 
-    pub fop-target : s useds (target s i) ≡ 1
+    pub fop-target : s inUse (target s i) ≡ 1
     fop-target = exposure-used s i fop-below
 
     taken-whole : Pledgeable (amountRaised s i) (target s i) (takenIn s i)

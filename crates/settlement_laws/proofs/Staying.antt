@@ -8,7 +8,7 @@ use native.Mathlib.Decide.{ℕ-discrete}
 use native.Mathlib.Omega.{arith}
 use borrow.Author.Tests.{ne-eqb, le-ltb}
 use Rattle.laws.specs.Search.{leastBy}
-use Rattle.book.specs.Layout.{today, numbers, kinds, amounts, settlements, settleds, partners, ends}
+use Rattle.book.specs.Layout.{today, numbers, kinds, amounts, settlements, settledAmounts, partners, ends}
 use Rattle.book.specs.State.{State}
 use Rattle.rules.specs.Requests.{partnerOf}
 use Rattle.rules.specs.Settlement.{orderOf, isDue, nextDue, returnSettled, fopSettled}
@@ -54,7 +54,7 @@ record SameBut (s t : State) (i j : ℕ) : Type 0 where
   settlement : (k : ℕ) → t settlements k ≡ s settlements k
   partner : (k : ℕ) → t partners k ≡ s partners k
   end : (k : ℕ) → t ends k ≡ s ends k
-  settled : (k : ℕ) → (k ≡ i → ⊥) → (k ≡ j → ⊥) → t settleds k ≡ s settleds k
+  settled : (k : ℕ) → (k ≡ i → ⊥) → (k ≡ j → ⊥) → t settledAmounts k ≡ s settledAmounts k
 
 module _ (s : State) (kind last i : ℕ) (h : Good s) (d : Due s kind last i) where
   abbrev other : ℕ

@@ -1,3 +1,3 @@
 pub mod Ranges
-pub mod Ways
+pub mod Returns
 pub mod Zeros

@@ -9,7 +9,7 @@ use lib.Dec.{eqb, leb, ltb}
 use Rattle.laws.specs.Search.{all}
 use Rattle.laws.proofs.Cases.{either}
 use Rattle.calendar.specs.Target.{openDay}
-use Rattle.book.specs.Layout.{tolerance, nextNumber, numbers, sides, givers, takers, objects, amounts, settlements, closings, useds, exposureGivers, exposureTakers, exposureBaskets, exposureClosings, exposures}
+use Rattle.book.specs.Layout.{tolerance, nextNumber, numbers, sides, givers, takers, objects, amounts, settlements, closings, inUse, exposureGivers, exposureTakers, exposureBaskets, exposureClosings, exposures}
 use Rattle.book.specs.State.{State}
 use Rattle.rules.specs.Requests.{isUsed, isFop, isReturn, isPaired}
 use Rattle.rules.specs.Sound.{between, openOrNone, soundParties, basketNamed, soundFop, soundReturn, soundKind, soundMarks, soundFields, soundPaired, soundUnpaired, soundRow, soundExposure}
@@ -78,7 +78,7 @@ module _ (s x : State) (m : More s x) where
       ⊎-elim
       (λ u. rw u (rw u at h))
       (λ u.
-      let t = split (eqb (s useds e) 1 ∷ soundParties s (s exposureGivers e) (s exposureTakers e) ∷ basketNamed s (s exposureBaskets e) ∷ openOrNone (s exposureClosings e) ∷ leb (s exposures e) 10000000000000 ∷ []) (rw u at h) in
-      rw u (join (eqb (s useds e) 1 ∷ soundParties x (s exposureGivers e) (s exposureTakers e) ∷ basketNamed x (s exposureBaskets e) ∷ openOrNone (s exposureClosings e) ∷ leb (s exposures e) 10000000000000 ∷ [])
+      let t = split (eqb (s inUse e) 1 ∷ soundParties s (s exposureGivers e) (s exposureTakers e) ∷ basketNamed s (s exposureBaskets e) ∷ openOrNone (s exposureClosings e) ∷ leb (s exposures e) 10000000000000 ∷ []) (rw u at h) in
+      rw u (join (eqb (s inUse e) 1 ∷ soundParties x (s exposureGivers e) (s exposureTakers e) ∷ basketNamed x (s exposureBaskets e) ∷ openOrNone (s exposureClosings e) ∷ leb (s exposures e) 10000000000000 ∷ [])
       (t .0, (parties-more (s exposureGivers e) (s exposureTakers e) (t .1 .0), (basket-more (s exposureBaskets e) (t .1 .1 .0), t .1 .1 .1)))))
-      (either (eqb (s useds e) 0))
+      (either (eqb (s inUse e) 0))

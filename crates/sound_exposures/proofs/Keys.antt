@@ -13,16 +13,16 @@ use lib.Seq.{getD-set-same, getD-set-other}
 use borrow.Author.Tests.{eqb-true}
 use Rattle.laws.proofs.Cases.{either}
 use Rattle.laws.proofs.Least.{all-at}
-use Rattle.book.specs.Layout.{useds, exposureGivers, exposureTakers, exposureBaskets, exposureClosings}
+use Rattle.book.specs.Layout.{inUse, exposureGivers, exposureTakers, exposureBaskets, exposureClosings}
 use Rattle.book.specs.State.{State}
 use Rattle.rules.specs.Sound.{same, alike, otherKey, distinctKey}
 use Rattle.facts.proofs.Facts.{all-of}
-use Rattle.exposure_search.specs.Places.{placeOf}
+use Rattle.exposure_search.specs.Slots.{slotOf}
 use Rattle.sound_exposures.specs.Keys.{KeysMarked}
 
--- equal keys have one place
-alike-place : (s : State) (e d : ℕ) → alike s 4 exposureGivers e d ≡ true → placeOf s e ≡ placeOf s d
-alike-place s e d h =
+-- equal keys have one slot
+alike-slot : (s : State) (e d : ℕ) → alike s 4 exposureGivers e d ≡ true → slotOf s e ≡ slotOf s d
+alike-slot s e d h =
     let at : (f : ℕ) → exposureGivers ≤ f → f < exposureGivers + 4 → s f e ≡ s f d = λ f g l. eqb-true (s f e) (s f d) (all-at (λ f. same s f e d) 4 exposureGivers h f g l) in
     rw (at exposureGivers (omega arith) (omega arith), at exposureTakers (omega arith) (omega arith), at exposureBaskets (omega arith) (omega arith), at exposureClosings (omega arith) (omega arith))
 
@@ -30,14 +30,14 @@ fails : (a b : Bool) → b ≡ false → not (a && b) ≡ true
 fails true b h = rw h
 fails false b h = refl
 
--- a key at whose place there is no mark differs from all before; and one more mark
-module _ (s : State) (marks : List ℕ) (e : ℕ) (m : KeysMarked s marks e) {p : ℕ} (pq : p ≡ placeOf s e) where
+-- a key at whose slot there is no mark differs from all before; and one more mark
+module _ (s : State) (marks : List ℕ) (e : ℕ) (m : KeysMarked s marks e) {p : ℕ} (pq : p ≡ slotOf s e) where
   other : getD marks p 0 ≡ 0 → (d : ℕ) → d < e → otherKey s e d ≡ true
   other z d l = ⊎-elim
       (λ h.
-      let mark : getD marks p 0 ≡ 1 = rw (pq ∙ alike-place s e d h) (m .each d l) in
+      let mark : getD marks p 0 ≡ 1 = rw (pq ∙ alike-slot s e d h) (m .each d l) in
       absurd (omega arith))
-      (λ h. fails (eqb (s useds d) 1) (alike s 4 exposureGivers e d) h)
+      (λ h. fails (eqb (s inUse d) 1) (alike s 4 exposureGivers e d) h)
       (either (alike s 4 exposureGivers e d))
 
   pub key-not-marked : getD marks p 0 ≡ 0 → true ≡ distinctKey s e
@@ -48,13 +48,13 @@ module _ (s : State) (marks : List ℕ) (e : ℕ) (m : KeysMarked s marks e) {p 
       let inside : p < length marks = omega (arith, m .long) in
       record {
         long = simp length-set (m .long);
-        each = λ d l. elim (ℕ-discrete (placeOf s d) p) [
+        each = λ d l. elim (ℕ-discrete (slotOf s d) p) [
           | yes q ↦ rw (q, getD-set-same marks p 1 0 inside)
-          | no q ↦ getD-set-other marks p (placeOf s d) 1 0 q ∙ m .each d (before d l q)
+          | no q ↦ getD-set-other marks p (slotOf s d) 1 0 q ∙ m .each d (before d l q)
         ];
       }
     where
-      before : (d : ℕ) → d < e + 1 → (placeOf s d ≡ p → ⊥) → d < e
+      before : (d : ℕ) → d < e + 1 → (slotOf s d ≡ p → ⊥) → d < e
       before d l q = elim (ℕ-discrete d e) [
         | yes h ↦ absurd (q (rw h (sym pq)))
         | no h ↦ omega arith

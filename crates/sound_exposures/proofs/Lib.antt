@@ -1,2 +1,2 @@
 pub mod Keys
-pub mod Ways
+pub mod Returns

@@ -14,13 +14,13 @@ use book::layout::EXPOSURE_CLOSINGS;
 use book::layout::EXPOSURE_GIVERS;
 use book::layout::EXPOSURE_TAKERS;
 use book::layout::EXPOSURES;
-use book::layout::USEDS;
+use book::layout::IN_USE;
 
 fn is_sound_exposure(book: &[u8], e: usize, days: &[u64; 16]) -> bool
     requires { ⌜ (length (now book) ≡ bookLength) × (e < 64) × OpenDays (now days) ⌝ }
     ensures { λ r. ⌜ r ≡ soundExposure (state (now (book .entry))) e ⌝ }
 {
-    let used = book::get(book, USEDS, e);
+    let used = book::get(book, IN_USE, e);
     if used == 0 {
         return row_tests::is_blank(book, 5, EXPOSURE_GIVERS, e);
     }
@@ -72,7 +72,7 @@ fn has_other_key(book: &[u8], e: usize, d: usize) -> bool
     requires { ⌜ (length (now book) ≡ bookLength) × (e < 64) × (d < 64) ⌝ }
     ensures { λ r. ⌜ r ≡ otherKey (state (now (book .entry))) e d ⌝ }
 {
-    if book::get(book, USEDS, d) != 1 {
+    if book::get(book, IN_USE, d) != 1 {
         return true;
     }
     !row_tests::are_alike(book, 4, EXPOSURE_GIVERS, e, d)
@@ -82,7 +82,7 @@ fn is_distinct_key(book: &[u8], e: usize) -> bool
     requires { ⌜ (length (now book) ≡ bookLength) × (e < 64) ⌝ }
     ensures { λ r. ⌜ r ≡ distinctKey (state (now (book .entry))) e ⌝ }
 {
-    if book::get(book, USEDS, e) == 0 {
+    if book::get(book, IN_USE, e) == 0 {
         return true;
     }
     let mut d: usize = 0;
@@ -95,16 +95,16 @@ fn is_distinct_key(book: &[u8], e: usize) -> bool
     true
 }
 
-// A distinct key by the marks: one at whose place there is none differs from all before.
+// A distinct key by the marks: one whose slot is not marked differs from all before.
 fn is_new_key(book: &[u8], marks: &[u8; 1024], e: usize) -> bool
     requires { ⌜ (length (now book) ≡ bookLength) × (e < 64) × KeysMarked (state (now book)) (now marks) e ⌝ }
     ensures { λ r. ⌜ r ≡ distinctKey (state (now (book .entry))) e ⌝ }
 {
-    if book::get(book, USEDS, e) == 0 {
+    if book::get(book, IN_USE, e) == 0 {
         return true;
     }
-    let place = exposure_search::place_of(book, e);
-    if marks[place] == 0 {
+    let slot = exposure_search::slot_of(book, e);
+    if marks[slot] == 0 {
         return true;
     }
     is_distinct_key(book, e)
@@ -114,8 +114,8 @@ fn mark_key(marks: &mut [u8; 1024], book: &[u8], e: usize)
     requires { ⌜ (length (now book) ≡ bookLength) × (e < 64) × KeysMarked (state (now book)) (now marks) e ⌝ }
     ensures { λ _. ⌜ KeysMarked (state (now (book .entry))) (now (marks .exit)) (e + 1) ⌝ }
 {
-    let place = exposure_search::place_of(book, e);
-    marks[place] = 1;
+    let slot = exposure_search::slot_of(book, e);
+    marks[slot] = 1;
 }
 
 pub fn are_distinct_keys(book: &[u8]) -> bool

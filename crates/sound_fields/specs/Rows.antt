@@ -4,7 +4,7 @@ use mathlib.Core.Bool.{Bool, _&&_}
 use mathlib.Core.Path.{_≡_}
 use Prim.Native.Nat.{_<_}
 use lib.Dec.{leb}
-use Rattle.book.specs.Layout.{numbers, kinds, sides, givers, takers, objects, amounts, settlements, closings, settleds, partners, pairPartials, cancels, ends}
+use Rattle.book.specs.Layout.{numbers, kinds, sides, givers, takers, objects, amounts, settlements, closings, settledAmounts, partners, pairPartials, cancels, ends}
 use Rattle.book.specs.State.{State}
 use Rattle.sound_fields.specs.declared.Request as declared
 
@@ -20,7 +20,7 @@ pub record Reads (s : State) (q : declared.Request) : Type 0 where
   pub amount : q .amount ≡ s amounts (q .row)
   pub settlement : q .settlement ≡ s settlements (q .row)
   pub closing : q .closing ≡ s closings (q .row)
-  pub settled : q .settled ≡ s settleds (q .row)
+  pub settled : q .settled ≡ s settledAmounts (q .row)
   pub partner : q .partner ≡ s partners (q .row)
   pub partial : q .partial ≡ s pairPartials (q .row)
   pub cancel : q .cancel ≡ s cancels (q .row)

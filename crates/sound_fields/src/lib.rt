@@ -14,18 +14,18 @@ use book::layout::ENDS;
 use book::layout::EXPOSURE_GIVERS;
 use book::layout::EXPOSURE_TAKERS;
 use book::layout::GIVERS;
+use book::layout::IN_USE;
 use book::layout::KINDS;
 use book::layout::NEXT_NUMBER;
 use book::layout::NUMBERS;
 use book::layout::OBJECTS;
 use book::layout::PAIR_PARTIALS;
 use book::layout::PARTNERS;
-use book::layout::SETTLEDS;
+use book::layout::SETTLED_AMOUNTS;
 use book::layout::SETTLEMENTS;
 use book::layout::SIDES;
 use book::layout::TAKERS;
 use book::layout::TOLERANCE;
-use book::layout::USEDS;
 
 // A used row, each field read once: the reference says nothing about soundness.
 pub struct Request {
@@ -61,7 +61,7 @@ pub fn request_at(book: &[u8], i: usize) -> Request
         amount: book::get(book, AMOUNTS, i),
         settlement: book::get(book, SETTLEMENTS, i),
         closing: book::get(book, CLOSINGS, i),
-        settled: book::get(book, SETTLEDS, i),
+        settled: book::get(book, SETTLED_AMOUNTS, i),
         partner: book::get(book, PARTNERS, i),
         partial: book::get(book, PAIR_PARTIALS, i),
         cancel: book::get(book, CANCELS, i),
@@ -79,7 +79,7 @@ fn does_return_name(book: &[u8], q: Request) -> bool
         return false;
     }
     let e = object as usize;
-    if book::get(book, USEDS, e) != 1 {
+    if book::get(book, IN_USE, e) != 1 {
         return false;
     }
     if book::get(book, EXPOSURE_GIVERS, e) != q.giver {

@@ -28,7 +28,7 @@ module _ (s : State) (i : ℕ) {n : ℕ} (nq : n ≡ s numbers i) where
       let mark : eqb (s numbers i) 0 ≡ false = ne-eqb (s numbers i) 0 (λ m. h (nq ∙ m)) in
       rw (mark, sub-zero)
 
--- a number at whose place there is no mark differs from all before; and one more mark
+-- a number at whose slot there is no mark differs from all before; and one more mark
 module _ (s : State) (marks : List ℕ) (i : ℕ) (m : Marked s marks i) {n : ℕ} (nq : n ≡ s numbers i) where
   pub none-next : n ≡ 0 → Marked s marks (i + 1)
   none-next z = record {

@@ -33,7 +33,7 @@ fn is_distinct_number(book: &[u8], i: usize) -> bool
     true
 }
 
-// The same by the marks: a number at whose place there is none differs from all before. It leaves its own.
+// The same by the marks: a number whose slot is not marked differs from all before. Its slot is marked then.
 fn is_new_number(marks: &mut [u8; 4096], book: &[u8], i: usize) -> bool
     requires { ⌜ (length (now book) ≡ bookLength) × (i < 256) × Marked (state (now book)) (now marks) i ⌝ }
     ensures { λ r. ⌜ (r ≡ distinctNumber (state (now (book .entry))) i) × Marked (state (now (book .entry))) (now (marks .exit)) (i + 1) ⌝ }
@@ -42,9 +42,9 @@ fn is_new_number(marks: &mut [u8; 4096], book: &[u8], i: usize) -> bool
     if number == 0 {
         return true;
     }
-    let place = (number % 4096) as usize;
-    let mark = marks[place];
-    marks[place] = 1;
+    let slot = (number % 4096) as usize;
+    let mark = marks[slot];
+    marks[slot] = 1;
     if mark == 0 {
         return true;
     }

@@ -1,2 +1,2 @@
 pub mod Terms
-pub mod Ways
+pub mod Returns

@@ -18,7 +18,7 @@ use book::layout::KINDS;
 use book::layout::OBJECTS;
 use book::layout::PAIR_PARTIALS;
 use book::layout::PARTNERS;
-use book::layout::SETTLEDS;
+use book::layout::SETTLED_AMOUNTS;
 use book::layout::SETTLEMENTS;
 use book::layout::SIDES;
 use book::layout::TAKERS;
@@ -58,7 +58,7 @@ fn are_marks_alike(book: &[u8], q: Request, j: usize) -> bool
     requires { ⌜ (length (now book) ≡ bookLength) × Reads (state (now book)) q × (j < 256) ⌝ }
     ensures { λ r. ⌜ r ≡ marksAlike (state (now (book .entry))) (q .row) j ⌝ }
 {
-    let settled = book::get(book, SETTLEDS, j);
+    let settled = book::get(book, SETTLED_AMOUNTS, j);
     let end = book::get(book, ENDS, j);
     let partial = book::get(book, PAIR_PARTIALS, j);
     if q.settled != settled {

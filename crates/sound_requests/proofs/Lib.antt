@@ -1,3 +1,3 @@
 pub mod Blocks
 pub mod Later
-pub mod Ways
+pub mod Returns

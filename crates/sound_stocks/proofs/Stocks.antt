@@ -16,7 +16,7 @@ use Rattle.laws.specs.Search.{all}
 use Rattle.laws.specs.Sum.{sum}
 use Rattle.laws.proofs.Cases.{either, clash, and-left, and-right}
 use Rattle.laws.proofs.Sum.{sum-next, sum-mono}
-use Rattle.book.specs.Layout.{lots, useds, exposureGivers, exposures, accounts, positions}
+use Rattle.book.specs.Layout.{lots, inUse, exposureGivers, exposures, accounts, positions}
 use Rattle.book.specs.State.{State, Fits}
 use Rattle.rules.specs.Sound.{positionFrom, holding, soundExposure, soundPosition, soundPositions, soundHolding, soundHoldings}
 use Rattle.facts.proofs.Facts.{all-of, below}
@@ -100,10 +100,10 @@ held-ends s {n} {held} a b h =
 -- one exposure
 module _ (s : State) (p e : ℕ) (o : Stocking s p e) where
   own-more : (i : ℕ) → sum (positionFrom s p i) (e + 1) ≡ sum (positionFrom s p i) e + s positions (64 * e + i)
-  own-more i = sum-next (positionFrom s p i) e ∙ rw (eq-eqb (s useds e) 1 (o .used), eq-eqb (s exposureGivers e) p (o .giver))
+  own-more i = sum-next (positionFrom s p i) e ∙ rw (eq-eqb (s inUse e) 1 (o .used), eq-eqb (s exposureGivers e) p (o .giver))
 
   other-same : (q i : ℕ) → (q ≡ p → ⊥) → sum (positionFrom s q i) (e + 1) ≡ sum (positionFrom s q i) e
-  other-same q i n = sum-next (positionFrom s q i) e ∙ rw (eq-eqb (s useds e) 1 (o .used), ne-eqb (s exposureGivers e) q (λ m. n (sym m ∙ o .giver)), add-zero)
+  other-same q i n = sum-next (positionFrom s q i) e ∙ rw (eq-eqb (s inUse e) 1 (o .used), ne-eqb (s exposureGivers e) q (λ m. n (sym m ∙ o .giver)), add-zero)
 
   pub adding-starts : {held : List ℕ} → Held s e held → Adding s p e (4 * 0) held
   adding-starts h = record {
@@ -143,7 +143,7 @@ module _ (s : State) (p e i : ℕ) {held : List ℕ} (a : Adding s p e i held) w
   module _ {n : ℕ} (l : i < 64) (q : n ≡ s positions (64 * e + i)) (z : n ≡ 0 → ⊥) {b : Bool} (bq : b ≡ inLots s i n) where
     lots-are : soundPosition s e i ≡ b
     lots-are =
-        rw (ne-eqb (s positions (64 * e + i)) 0 (λ m. z (q ∙ m)), eq-eqb (s useds e) 1 (a .own .used), ne-eqb (s exposures e) 0 (a .own .amount), ← q) (sym bq)
+        rw (ne-eqb (s positions (64 * e + i)) 0 (λ m. z (q ∙ m)), eq-eqb (s inUse e) 1 (a .own .used), ne-eqb (s exposures e) 0 (a .own .amount), ← q) (sym bq)
 
     pub nominal-not-whole : {B : Type 0} → not b ≡ true → Judged s false B
     nominal-not-whole f = refused s (λ h. clash (each-position s h e i (a .own .below) l) (lots-are ∙ not-true b f))
@@ -228,7 +228,7 @@ module _ (s : State) (e : ℕ) {held : List ℕ} (l : e < 64) (h : Held s e held
       record {
         pass = λ p. record {
           long = h .long;
-          each = λ q i a b. h .each q i a b ∙ sym (sum-next (positionFrom s q i) e ∙ rw (eqb-true (s positions (64 * e + i)) 0 (below t 64 (sym rq ∙ p) i b)) (add-none (eqb (s useds e) 1 && eqb (s exposureGivers e) q)));
+          each = λ q i a b. h .each q i a b ∙ sym (sum-next (positionFrom s q i) e ∙ rw (eqb-true (s positions (64 * e + i)) 0 (below t 64 (sym rq ∙ p) i b)) (add-none (eqb (s inUse e) 1 && eqb (s exposureGivers e) q)));
           within = h .within;
           lots = λ d a. elim (ℕ-discrete d e) [
             | yes m ↦ rw m (all-of (soundPosition s e) 64 0 (λ i b c. sym (empty-sound i) ∙ below t 64 (sym rq ∙ p) i c))

@@ -8,7 +8,7 @@ use lib.Dec.{eqb, leb}
 use lib.ListN.{length, getD}
 use Rattle.laws.specs.Search.{all}
 use Rattle.laws.specs.Sum.{sum}
-use Rattle.book.specs.Layout.{lots, useds, exposureGivers, exposures, accounts}
+use Rattle.book.specs.Layout.{lots, inUse, exposureGivers, exposures, accounts}
 use Rattle.book.specs.State.{State}
 use Rattle.rules.specs.Sound.{positionFrom, soundPosition, soundPositions, soundHoldings}
 
@@ -31,7 +31,7 @@ soundStocks s = all (soundPositions s) 64 0 && all (soundHoldings s) 32 0
 pub record Stocking (s : State) (p e : ℕ) : Type 0 where
   pub giver-below : p < 32
   pub below : e < 64
-  pub used : s useds e ≡ 1
+  pub used : s inUse e ≡ 1
   pub giver : s exposureGivers e ≡ p
   pub amount : s exposures e ≡ 0 → ⊥
 

@@ -19,7 +19,7 @@ pub fn value_of(nominal: u64, pricing: Pricing) -> u64
     nominal * pricing.price * (10000 - pricing.haircut) / 100000000
 }
 
-// The largest nominal of one account that is worth no more than an amount: the value turned round, in one division.
+// The largest nominal of one account that is worth no more than an amount: the inverse of the value, in one division.
 pub fn nominal_within(cents: u64, pricing: Pricing) -> u64
     requires { ⌜ (1 ≤ pricing .price) × Bounded pricing ⌝ }
     ensures { λ r. ⌜ r ≡ nominalWithin pricing cents ⌝ }

@@ -1,6 +1,6 @@
 -- `accounts::account_code` meets its contract.
 -- Assumes nothing.
-use Rattle.accounts.proofs.Ways.{no-participant, no-security, both-set-up}
+use Rattle.accounts.proofs.Returns.{no-participant, no-security, both-set-up}
 use borrow.Author.Needs.{needs}
 use Rattle.accounts.proofs.account_code.Statement.{statement}
 use Rattle.accounts.proofs.account_code.Tie as tie

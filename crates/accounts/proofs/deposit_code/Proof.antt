@@ -1,7 +1,7 @@
 -- `accounts::deposit_code` meets its contract.
 -- Assumes nothing.
 use Rattle.accounts.proofs.Ranges.{deposit-in}
-use Rattle.accounts.proofs.Ways.{deposit-unknown, deposit-large, deposit-accepted}
+use Rattle.accounts.proofs.Returns.{deposit-unknown, deposit-large, deposit-accepted}
 use borrow.Author.Needs.{needs}
 use Rattle.accounts.proofs.deposit_code.Statement.{statement}
 use Rattle.accounts.proofs.deposit_code.Tie as tie

@@ -3,7 +3,7 @@
 use Prim.Native.Nat.{_+_, _*_}
 use native.Mathlib.Omega.{arith}
 use Rattle.accounts.proofs.Ranges.{position-small}
-use Rattle.accounts.proofs.Ways.{not-used, not-giver, from-used}
+use Rattle.accounts.proofs.Returns.{not-used, not-giver, from-used}
 use borrow.Author.Needs.{needs}
 use Rattle.accounts.proofs.position_from.Statement.{statement}
 use Rattle.accounts.proofs.position_from.Tie as tie

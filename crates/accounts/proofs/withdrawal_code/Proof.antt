@@ -1,7 +1,7 @@
 -- `accounts::withdrawal_code` meets its contract.
 -- Assumes nothing.
 use Rattle.accounts.proofs.Ranges.{withdrawal-in}
-use Rattle.accounts.proofs.Ways.{withdrawal-unknown, withdrawal-large, withdrawal-accepted}
+use Rattle.accounts.proofs.Returns.{withdrawal-unknown, withdrawal-large, withdrawal-accepted}
 use borrow.Author.Needs.{needs}
 use Rattle.accounts.proofs.withdrawal_code.Statement.{statement}
 use Rattle.accounts.proofs.withdrawal_code.Tie as tie

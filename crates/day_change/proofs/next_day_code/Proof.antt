@@ -4,7 +4,7 @@ use native.Mathlib.Omega.{arith}
 use Rattle.book.specs.State.{state}
 use Rattle.facts.proofs.Facts.{sound-facts}
 use Rattle.facts.proofs.Stock.{today-le}
-use Rattle.day_change.proofs.Ways.{no-next-day, a-next-day}
+use Rattle.day_change.proofs.Returns.{no-next-day, a-next-day}
 use borrow.Author.Needs.{needs}
 use Rattle.day_change.proofs.next_day_code.Statement.{statement}
 use Rattle.day_change.proofs.next_day_code.Tie as tie

@@ -1,6 +1,6 @@
 -- `day_exposures::does_belong` meets its contract.
 -- Assumes nothing.
-use Rattle.day_exposures.proofs.Ways.{no-row, by-name, no-kind, no-pair, by-pair}
+use Rattle.day_exposures.proofs.Returns.{no-row, by-name, no-kind, no-pair, by-pair}
 use borrow.Author.Needs.{needs}
 use Rattle.day_exposures.proofs.does_belong.Statement.{statement}
 use Rattle.day_exposures.proofs.does_belong.Tie as tie

@@ -1,6 +1,6 @@
 -- `day_exposures::is_exposure_closed` meets its contract.
 -- Assumes nothing.
-use Rattle.day_exposures.proofs.Ways.{not-used, by-reached}
+use Rattle.day_exposures.proofs.Returns.{not-used, by-reached}
 use borrow.Author.Needs.{needs}
 use Rattle.day_exposures.proofs.is_exposure_closed.Statement.{statement}
 use Rattle.day_exposures.proofs.is_exposure_closed.Tie as tie

@@ -1,7 +1,7 @@
 -- `day_exposures::is_idle` meets its contract.
 -- Assumes nothing.
 use Rattle.day_exposures.proofs.Marks.{idle-unmarked}
-use Rattle.day_exposures.proofs.Ways.{idle-unused, idle-amount, by-rows}
+use Rattle.day_exposures.proofs.Returns.{idle-unused, idle-amount, by-rows}
 use borrow.Author.Needs.{needs}
 use Rattle.day_exposures.proofs.is_idle.Statement.{statement}
 use Rattle.day_exposures.proofs.is_idle.Tie as tie
@@ -18,8 +18,8 @@ get-requires-2 c κs = search needs
 returns-2 : tie.Need-returns-2
 returns-2 c = search idle-amount
 
-place-of-requires : tie.Need-place-of-requires
-place-of-requires c κs = search needs
+slot-of-requires : tie.Need-slot-of-requires
+slot-of-requires c κs = search needs
 
 element-copy-out-if3 : tie.Need-element-copy-out-if3
 element-copy-out-if3 c = search needs
@@ -41,7 +41,7 @@ is-idle-spec =
     returns
     get-requires-2
     returns-2
-    place-of-requires
+    slot-of-requires
     element-copy-out-if3
     returns-3
     does-none-belong-requires

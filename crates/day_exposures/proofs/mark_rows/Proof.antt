@@ -25,8 +25,8 @@ returns c = search marked-all
 loop-holds : tie.Need-loop-holds Inv-loop μ-loop
 loop-holds c = (omega arith, search marked-none)
 
-row-place-requires : tie.Need-row-place-requires Inv-loop μ-loop
-row-place-requires c κs = search needs
+row-slot-requires : tie.Need-row-slot-requires Inv-loop μ-loop
+row-slot-requires c κs = search needs
 
 element-write-marks : tie.Need-element-write-marks Inv-loop μ-loop
 element-write-marks c = search needs
@@ -52,7 +52,7 @@ mark-rows-spec =
     is-any-empty-requires
     returns
     loop-holds
-    row-place-requires
+    row-slot-requires
     element-write-marks
     add-i
     loop-less

@@ -2,7 +2,7 @@
 -- Assumes nothing.
 use mathlib.Core.Path.{sym, _∙_}
 use native.Mathlib.Omega.{arith}
-use Rattle.day_rows.proofs.Ways.{by-exposure, neither-kind, not-paired, by-closing}
+use Rattle.day_rows.proofs.Returns.{by-exposure, neither-kind, not-paired, by-closing}
 use borrow.Author.Needs.{needs}
 use Rattle.day_rows.proofs.is_closed.Statement.{statement}
 use Rattle.day_rows.proofs.is_closed.Tie as tie

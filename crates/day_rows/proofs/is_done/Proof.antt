@@ -1,6 +1,6 @@
 -- `day_rows::is_done` meets its contract.
 -- Assumes nothing.
-use Rattle.day_rows.proofs.Ways.{done-whole, done-ended, done-not, by-settlement}
+use Rattle.day_rows.proofs.Returns.{done-whole, done-ended, done-not, by-settlement}
 use borrow.Author.Needs.{needs}
 use Rattle.day_rows.proofs.is_done.Statement.{statement}
 use Rattle.day_rows.proofs.is_done.Tie as tie

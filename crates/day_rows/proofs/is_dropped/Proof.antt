@@ -1,6 +1,6 @@
 -- `day_rows::is_dropped` meets its contract.
 -- Assumes nothing.
-use Rattle.day_rows.proofs.Ways.{drop-unused, drop-done, by-closed}
+use Rattle.day_rows.proofs.Returns.{drop-unused, drop-done, by-closed}
 use borrow.Author.Needs.{needs}
 use Rattle.day_rows.proofs.is_dropped.Statement.{statement}
 use Rattle.day_rows.proofs.is_dropped.Tie as tie

@@ -1,6 +1,6 @@
 -- `day_rows::is_reached` meets its contract.
 -- Assumes nothing.
-use Rattle.day_rows.proofs.Ways.{never-reached, by-day}
+use Rattle.day_rows.proofs.Returns.{never-reached, by-day}
 use Rattle.day_rows.proofs.is_reached.Statement.{statement}
 use Rattle.day_rows.proofs.is_reached.Tie as tie
 

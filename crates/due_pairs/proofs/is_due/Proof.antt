@@ -1,6 +1,6 @@
 -- `due_pairs::is_due` meets its contract.
 -- Assumes nothing.
-use Rattle.due_pairs.proofs.Ways.{other-kind, same-kind}
+use Rattle.due_pairs.proofs.Returns.{other-kind, same-kind}
 use borrow.Author.Needs.{needs}
 use Rattle.due_pairs.proofs.is_due.Statement.{statement}
 use Rattle.due_pairs.proofs.is_due.Tie as tie

@@ -1,7 +1,7 @@
 -- `due_pairs::is_due_pair` meets its contract.
 -- Assumes nothing.
 use native.Mathlib.Omega.{arith}
-use Rattle.due_pairs.proofs.Ways.{no-number, no-partner, has-ended, is-whole, is-earlier, by-day, partner-row}
+use Rattle.due_pairs.proofs.Returns.{no-number, no-partner, has-ended, is-whole, is-earlier, by-day, partner-row}
 use borrow.Author.Needs.{needs}
 use Rattle.due_pairs.proofs.is_due_pair.Statement.{statement}
 use Rattle.due_pairs.proofs.is_due_pair.Tie as tie

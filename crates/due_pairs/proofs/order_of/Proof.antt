@@ -3,7 +3,7 @@
 use native.Mathlib.Omega.{arith}
 use Rattle.book.proofs.Images.{state-fits}
 use Rattle.book.specs.State.{state}
-use Rattle.due_pairs.proofs.Ways.{Dated}
+use Rattle.due_pairs.proofs.Returns.{Dated}
 use Rattle.book.specs.Layout.{numbers, settlements}
 use borrow.Author.Needs.{needs}
 use Rattle.due_pairs.proofs.order_of.Statement.{statement}

@@ -1,6 +1,6 @@
 -- `engine::damage_code` meets its contract.
 -- Assumes nothing.
-use Rattle.engine.proofs.Ways.{other-length, opening-passes, sound-passes, unsound-refused}
+use Rattle.engine.proofs.Returns.{other-length, opening-passes, sound-passes, unsound-refused}
 use borrow.Author.Needs.{needs}
 use Rattle.engine.proofs.damage_code.Statement.{statement}
 use Rattle.engine.proofs.damage_code.Tie as tie

@@ -2,7 +2,7 @@
 -- Assumes nothing.
 use mathlib.Core.Path.{_≡_, sym, _∙_}
 use Rattle.book.specs.State.{state}
-use Rattle.engine.proofs.Ways.{no-damage-passes, damage-refused, reader-refuses, rules-refuse, rules-decide, taken-record, accepted-book, accepted-answer}
+use Rattle.engine.proofs.Returns.{no-damage-passes, damage-refused, reader-refuses, rules-refuse, rules-decide, taken-record, accepted-book, accepted-answer}
 use borrow.Author.Needs.{needs}
 use Rattle.engine.proofs.engine_call.Statement.{statement}
 use Rattle.engine.proofs.engine_call.Tie as tie

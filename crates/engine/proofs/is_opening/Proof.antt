@@ -1,7 +1,7 @@
 -- `engine::is_opening` meets its contract.
 -- Assumes nothing.
 use mathlib.Core.Path.{refl}
-use Rattle.engine.proofs.Ways.{no-byte, by-byte}
+use Rattle.engine.proofs.Returns.{no-byte, by-byte}
 use borrow.Author.Needs.{needs}
 use Rattle.engine.proofs.is_opening.Statement.{statement}
 use Rattle.engine.proofs.is_opening.Tie as tie

@@ -5,8 +5,8 @@ use borrow.Author.Needs.{needs}
 use Rattle.exposure_search.proofs.has_exposure.Statement.{statement}
 use Rattle.exposure_search.proofs.has_exposure.Tie as tie
 
-key-place-requires : tie.Need-key-place-requires
-key-place-requires c κs = search needs
+key-slot-requires : tie.Need-key-slot-requires
+key-slot-requires c κs = search needs
 
 element-copy-out-wide : tie.Need-element-copy-out-wide
 element-copy-out-wide c = search needs
@@ -30,7 +30,7 @@ pub has-exposure-spec : {M : Type 1} → statement M
 has-exposure-spec =
     tie.close
     (tie.spec
-    key-place-requires
+    key-slot-requires
     element-copy-out-wide
     wide-requires
     has-key-requires

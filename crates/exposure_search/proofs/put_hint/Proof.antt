@@ -8,8 +8,8 @@ use Rattle.exposure_search.proofs.put_hint.Tie as tie
 get-requires : tie.Need-get-requires
 get-requires c κs = search needs
 
-place-of-requires : tie.Need-place-of-requires
-place-of-requires c κs = search needs
+slot-of-requires : tie.Need-slot-of-requires
+slot-of-requires c κs = search needs
 
 cast-hints : tie.Need-cast-hints
 cast-hints c = search needs
@@ -26,4 +26,4 @@ returns-2 c = search hint-left
 pub put-hint-spec : {M : Type 1} → statement M
 put-hint-spec =
     tie.close
-    (tie.spec get-requires place-of-requires cast-hints element-write-hints returns returns-2)
+    (tie.spec get-requires slot-of-requires cast-hints element-write-hints returns returns-2)

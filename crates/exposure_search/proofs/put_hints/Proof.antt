@@ -4,7 +4,7 @@ use mathlib.Core.Path.{_≡_}
 use Prim.Native.Nat.{_-_, _≤_}
 use native.Mathlib.Omega.{arith}
 use Rattle.book.specs.State.{state}
-use Rattle.exposure_search.specs.Places.{withHints}
+use Rattle.exposure_search.specs.Slots.{withHints}
 use Rattle.exposure_search.proofs.Hints.{none-put, one-more-put}
 use borrow.Author.Needs.{needs}
 use Rattle.exposure_search.proofs.put_hints.Statement.{statement}

@@ -1,6 +1,6 @@
 -- `mark_steps::ineligible_nominal` meets its contract.
 -- Assumes nothing.
-use Rattle.mark_steps.proofs.Ways.{no-nominal, stays, goes}
+use Rattle.mark_steps.proofs.Returns.{no-nominal, stays, goes}
 use borrow.Author.Needs.{needs}
 use Rattle.mark_steps.proofs.ineligible_nominal.Statement.{statement}
 use Rattle.mark_steps.proofs.ineligible_nominal.Tie as tie

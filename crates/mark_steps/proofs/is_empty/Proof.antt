@@ -6,7 +6,7 @@ use mathlib.Core.Path.{refl}
 use native.Mathlib.Omega.{arith}
 use Rattle.laws.proofs.Least.{Rest, loop-ends}
 use Rattle.marking_laws.specs.Pass.{isEmpty}
-use Rattle.mark_steps.proofs.Ways.{isZero, found-some, found-none}
+use Rattle.mark_steps.proofs.Returns.{isZero, found-some, found-none}
 use Rattle.mark_steps.proofs.is_empty.Statement.{statement}
 use Rattle.mark_steps.proofs.is_empty.Tie as tie
 

@@ -1,7 +1,7 @@
 -- `mark_steps::may_stay` meets its contract.
 -- Assumes nothing.
 use borrow.Author.Needs.{needs}
-use Rattle.mark_steps.proofs.Ways.{none-held, some-held}
+use Rattle.mark_steps.proofs.Returns.{none-held, some-held}
 use Rattle.mark_steps.proofs.may_stay.Statement.{statement}
 use Rattle.mark_steps.proofs.may_stay.Tie as tie
 

@@ -5,8 +5,8 @@ use borrow.Author.Needs.{needs}
 use Rattle.open_days.proofs.is_known_open.Statement.{statement}
 use Rattle.open_days.proofs.is_known_open.Tie as tie
 
-day-place-requires : tie.Need-day-place-requires
-day-place-requires c κs = search needs
+day-slot-requires : tie.Need-day-slot-requires
+day-slot-requires c κs = search needs
 
 mul-if1 : tie.Need-mul-if1
 mul-if1 c = search needs
@@ -26,4 +26,4 @@ returns-2 c = search needs
 pub is-known-open-spec : {M : Type 1} → statement M
 is-known-open-spec =
     tie.close
-    (tie.spec day-place-requires mul-if1 element-copy-out-if1 returns is-open-requires returns-2)
+    (tie.spec day-slot-requires mul-if1 element-copy-out-if1 returns is-open-requires returns-2)

@@ -5,8 +5,8 @@ use borrow.Author.Needs.{needs}
 use Rattle.open_days.proofs.note_open.Statement.{statement}
 use Rattle.open_days.proofs.note_open.Tie as tie
 
-day-place-requires : tie.Need-day-place-requires
-day-place-requires c κs = search needs
+day-slot-requires : tie.Need-day-slot-requires
+day-slot-requires c κs = search needs
 
 mul-days : tie.Need-mul-days
 mul-days c = search needs
@@ -18,4 +18,4 @@ returns : tie.Need-returns
 returns c = search day-noted
 
 pub note-open-spec : {M : Type 1} → statement M
-note-open-spec = tie.close (tie.spec day-place-requires mul-days element-write-days returns)
+note-open-spec = tie.close (tie.spec day-slot-requires mul-days element-write-days returns)

@@ -6,7 +6,7 @@ use native.Mathlib.Omega.{arith}
 use Rattle.bond_laws.proofs.Lots.{pick-value}
 use Rattle.bonds.proofs.Ready.{good-pickable, pick-pledges}
 use Rattle.bonds.specs.Moves.{Pledging}
-use Rattle.book.specs.Layout.{useds}
+use Rattle.book.specs.Layout.{inUse}
 use Rattle.book.specs.State.{state}
 use Rattle.rules.specs.Settlement.{fopAmount}
 use Rattle.rules.specs.Stock.{eligibleFor}
@@ -22,7 +22,7 @@ use Rattle.pair_settlement.proofs.settle_fop.Tie as tie
 target-below : (c : tie.After-exposure-of-fop) → c .exposure-of-fop .result < 64
 target-below c = let s = c .before .before .before in rw (c .exposure-of-fop .ensures) (fop-pair (s .pre .1) (s .pre .2))
 
-target-used : (c : tie.After-exposure-of-fop) → state (c .before .before .before .args .book .now) useds (c .exposure-of-fop .result) ≡ 1
+target-used : (c : tie.After-exposure-of-fop) → state (c .before .before .before .args .book .now) inUse (c .exposure-of-fop .result) ≡ 1
 target-used c =
     let s = c .before .before .before in
     rw (c .exposure-of-fop .ensures) (exposure-used (state (s .args .book .now)) (s .args .i) (fop-pair (s .pre .1) (s .pre .2)))

@@ -1,6 +1,6 @@
 -- `reads::account_rules` meets its contract.
 -- Assumes nothing.
-use Rattle.reads.proofs.Ways.{account-far, account-beyond, account-unknown, account-unlisted, account-accepted}
+use Rattle.reads.proofs.Returns.{account-far, account-beyond, account-unknown, account-unlisted, account-accepted}
 use borrow.Author.Needs.{needs}
 use Rattle.reads.proofs.account_rules.Statement.{statement}
 use Rattle.reads.proofs.account_rules.Tie as tie

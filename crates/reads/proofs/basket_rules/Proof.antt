@@ -1,6 +1,6 @@
 -- `reads::basket_rules` meets its contract.
 -- Assumes nothing.
-use Rattle.reads.proofs.Ways.{basket-far, basket-unknown, basket-accepted}
+use Rattle.reads.proofs.Returns.{basket-far, basket-unknown, basket-accepted}
 use borrow.Author.Needs.{needs}
 use Rattle.reads.proofs.basket_rules.Statement.{statement}
 use Rattle.reads.proofs.basket_rules.Tie as tie

@@ -1,6 +1,6 @@
 -- `reads::book_code` meets its contract.
 -- Assumes nothing.
-use Rattle.reads.proofs.Ways.{other-length, not-sound, book-accepted}
+use Rattle.reads.proofs.Returns.{other-length, not-sound, book-accepted}
 use borrow.Author.Needs.{needs}
 use Rattle.reads.proofs.book_code.Statement.{statement}
 use Rattle.reads.proofs.book_code.Tie as tie

@@ -1,6 +1,6 @@
 -- `reads::exposure_rules` meets its contract.
 -- Assumes nothing.
-use Rattle.reads.proofs.Ways.{exposure-far, exposure-unused, exposure-accepted}
+use Rattle.reads.proofs.Returns.{exposure-far, exposure-unused, exposure-accepted}
 use borrow.Author.Needs.{needs}
 use Rattle.reads.proofs.exposure_rules.Statement.{statement}
 use Rattle.reads.proofs.exposure_rules.Tie as tie

@@ -1,7 +1,7 @@
 -- `reads::partner_number` meets its contract.
 -- Assumes nothing.
 use Rattle.book.specs.State.{state}
-use Rattle.reads.proofs.Ways.{partner-near, partner-none, partner-some}
+use Rattle.reads.proofs.Returns.{partner-near, partner-none, partner-some}
 use borrow.Author.Needs.{needs}
 use Rattle.reads.proofs.partner_number.Statement.{statement}
 use Rattle.reads.proofs.partner_number.Tie as tie

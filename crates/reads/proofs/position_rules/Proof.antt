@@ -1,6 +1,6 @@
 -- `reads::position_rules` meets its contract.
 -- Assumes nothing.
-use Rattle.reads.proofs.Ways.{position-far, position-beyond, position-unused, position-unlisted, position-accepted}
+use Rattle.reads.proofs.Returns.{position-far, position-beyond, position-unused, position-unlisted, position-accepted}
 use borrow.Author.Needs.{needs}
 use Rattle.reads.proofs.position_rules.Statement.{statement}
 use Rattle.reads.proofs.position_rules.Tie as tie

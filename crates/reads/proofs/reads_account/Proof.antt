@@ -3,7 +3,7 @@
 use native.Mathlib.Omega.{arith}
 use Rattle.book.specs.State.{state}
 use Rattle.reads.proofs.Answers.{account-damaged, account-refused, account-read, account-in}
-use Rattle.reads.proofs.Ways.{accepted-length}
+use Rattle.reads.proofs.Returns.{accepted-length}
 use borrow.Author.Needs.{needs}
 use Rattle.reads.proofs.reads_account.Statement.{statement}
 use Rattle.reads.proofs.reads_account.Tie as tie

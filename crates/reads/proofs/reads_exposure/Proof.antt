@@ -3,7 +3,7 @@
 use native.Mathlib.Omega.{arith}
 use Rattle.book.specs.State.{state}
 use Rattle.reads.proofs.Answers.{exposure-damaged, exposure-refused, exposure-read, exposure-in}
-use Rattle.reads.proofs.Ways.{accepted-length}
+use Rattle.reads.proofs.Returns.{accepted-length}
 use borrow.Author.Needs.{needs}
 use Rattle.reads.proofs.reads_exposure.Statement.{statement}
 use Rattle.reads.proofs.reads_exposure.Tie as tie

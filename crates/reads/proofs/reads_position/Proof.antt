@@ -3,7 +3,7 @@
 use native.Mathlib.Omega.{arith}
 use Rattle.book.specs.State.{state}
 use Rattle.reads.proofs.Answers.{position-damaged, position-refused, position-read, position-in}
-use Rattle.reads.proofs.Ways.{accepted-length}
+use Rattle.reads.proofs.Returns.{accepted-length}
 use borrow.Author.Needs.{needs}
 use Rattle.reads.proofs.reads_position.Statement.{statement}
 use Rattle.reads.proofs.reads_position.Tie as tie

@@ -2,7 +2,7 @@
 -- Assumes nothing.
 use Rattle.book.specs.State.{state}
 use Rattle.reads.proofs.Answers.{request-damaged, request-refused, request-read, row-near}
-use Rattle.reads.proofs.Ways.{accepted-length, accepted-sound}
+use Rattle.reads.proofs.Returns.{accepted-length, accepted-sound}
 use borrow.Author.Needs.{needs}
 use Rattle.reads.proofs.reads_request.Statement.{statement}
 use Rattle.reads.proofs.reads_request.Tie as tie

@@ -2,7 +2,7 @@
 -- Assumes nothing.
 use Prim.Native.Nat.{_+_}
 use native.Mathlib.Omega.{arith}
-use Rattle.reads.proofs.Ways.{number-code, number-partner, number-field, number-rows}
+use Rattle.reads.proofs.Returns.{number-code, number-partner, number-field, number-rows}
 use borrow.Author.Needs.{needs}
 use Rattle.reads.proofs.request_number.Statement.{statement}
 use Rattle.reads.proofs.request_number.Tie as tie

@@ -5,7 +5,7 @@ use Prim.Native.Nat.{_-_, _≤_}
 use native.Mathlib.Omega.{arith}
 use Rattle.book.specs.State.{state}
 use Rattle.rules.specs.Reads.{rowOf}
-use Rattle.reads.proofs.Ways.{Searching, isRow, row-zero, row-end, row-here, row-on}
+use Rattle.reads.proofs.Returns.{Searching, isRow, row-zero, row-end, row-here, row-on}
 use borrow.Author.Needs.{needs}
 use Rattle.reads.proofs.row_of.Statement.{statement}
 use Rattle.reads.proofs.row_of.Tie as tie

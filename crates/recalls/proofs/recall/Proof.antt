@@ -2,7 +2,7 @@
 -- Assumes nothing.
 use Rattle.book.specs.State.{state}
 use Rattle.marking_laws.proofs.Ranges.{recall-in}
-use Rattle.recalls.proofs.Ways.{accepted-recalling, one-gives, found-pledges, recall-whole}
+use Rattle.recalls.proofs.Returns.{accepted-recalling, one-gives, found-pledges, recall-whole}
 use borrow.Author.Needs.{needs}
 use Rattle.recalls.proofs.recall.Statement.{statement}
 use Rattle.recalls.proofs.recall.Tie as tie

@@ -1,7 +1,7 @@
 -- `recalls::recall_code` meets its contract.
 -- Assumes nothing.
 use Rattle.book.specs.State.{state}
-use Rattle.recalls.proofs.Ways.{code-names, code-holds, all-passed, code-none, code-refused}
+use Rattle.recalls.proofs.Returns.{code-names, code-holds, all-passed, code-none, code-refused}
 use borrow.Author.Needs.{needs}
 use Rattle.recalls.proofs.recall_code.Statement.{statement}
 use Rattle.recalls.proofs.recall_code.Tie as tie

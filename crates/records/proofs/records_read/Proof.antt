@@ -2,7 +2,7 @@
 -- Assumes nothing.
 use borrow.Author.Needs.{needs}
 use native.Mathlib.Omega.{arith}
-use Rattle.records.proofs.Ways.{read-empty, read-unknown, read-misfit, read-illegal, read-legal}
+use Rattle.records.proofs.Returns.{read-empty, read-unknown, read-misfit, read-illegal, read-legal}
 use Rattle.records.proofs.records_read.Statement.{statement}
 use Rattle.records.proofs.records_read.Tie as tie
 

@@ -2,7 +2,7 @@
 -- Assumes nothing.
 use borrow.Author.Needs.{needs}
 use Rattle.answers.specs.Answers.{malformed, outOfRange}
-use Rattle.records.proofs.Ways.{part-kept, part-filled, write-unknown, write-misfit, write-illegal, write-legal}
+use Rattle.records.proofs.Returns.{part-kept, part-filled, write-unknown, write-misfit, write-illegal, write-legal}
 use Rattle.records.proofs.records_write.Statement.{statement}
 use Rattle.records.proofs.records_write.Tie as tie
 

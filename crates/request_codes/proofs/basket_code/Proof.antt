@@ -1,6 +1,6 @@
 -- `request_codes::basket_code` meets its contract.
 -- Assumes nothing.
-use Rattle.request_codes.proofs.Ways.{no-basket, basket-known}
+use Rattle.request_codes.proofs.Returns.{no-basket, basket-known}
 use borrow.Author.Needs.{needs}
 use Rattle.request_codes.proofs.basket_code.Statement.{statement}
 use Rattle.request_codes.proofs.basket_code.Tie as tie

@@ -1,6 +1,6 @@
 -- `request_codes::closing_code` meets its contract.
 -- Assumes nothing.
-use Rattle.request_codes.proofs.Ways.{closing-none, closing-closed, closing-early, closing-good}
+use Rattle.request_codes.proofs.Returns.{closing-none, closing-closed, closing-early, closing-good}
 use borrow.Author.Needs.{needs}
 use Rattle.request_codes.proofs.closing_code.Statement.{statement}
 use Rattle.request_codes.proofs.closing_code.Tie as tie

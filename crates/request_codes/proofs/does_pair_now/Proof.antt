@@ -1,6 +1,6 @@
 -- `request_codes::does_pair_now` meets its contract.
 -- Assumes nothing.
-use Rattle.request_codes.proofs.Ways.{pairs-with-taker, pairs-by-equal}
+use Rattle.request_codes.proofs.Returns.{pairs-with-taker, pairs-by-equal}
 use borrow.Author.Needs.{needs}
 use Rattle.request_codes.proofs.does_pair_now.Statement.{statement}
 use Rattle.request_codes.proofs.does_pair_now.Tie as tie

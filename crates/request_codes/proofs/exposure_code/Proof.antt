@@ -1,6 +1,6 @@
 -- `request_codes::exposure_code` meets its contract.
 -- Assumes nothing.
-use Rattle.request_codes.proofs.Ways.{some-free, key-used, none-free, pairs-later}
+use Rattle.request_codes.proofs.Returns.{some-free, key-used, none-free, pairs-later}
 use borrow.Author.Needs.{needs}
 use Rattle.request_codes.proofs.exposure_code.Statement.{statement}
 use Rattle.request_codes.proofs.exposure_code.Tie as tie

@@ -1,6 +1,6 @@
 -- `request_codes::fop_name_code` meets its contract.
 -- Assumes nothing.
-use Rattle.request_codes.proofs.Ways.{name-party, name-basket, name-settlement, name-closing}
+use Rattle.request_codes.proofs.Returns.{name-party, name-basket, name-settlement, name-closing}
 use borrow.Author.Needs.{needs}
 use Rattle.request_codes.proofs.fop_name_code.Statement.{statement}
 use Rattle.request_codes.proofs.fop_name_code.Tie as tie

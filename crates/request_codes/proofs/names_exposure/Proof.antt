@@ -1,6 +1,6 @@
 -- `request_codes::names_exposure` meets its contract.
 -- Assumes nothing.
-use Rattle.request_codes.proofs.Ways.{names-unused, names-other, names-by-taker}
+use Rattle.request_codes.proofs.Returns.{names-unused, names-other, names-by-taker}
 use borrow.Author.Needs.{needs}
 use Rattle.request_codes.proofs.names_exposure.Statement.{statement}
 use Rattle.request_codes.proofs.names_exposure.Tie as tie

@@ -1,6 +1,6 @@
 -- `request_codes::party_code` meets its contract.
 -- Assumes nothing.
-use Rattle.request_codes.proofs.Ways.{no-giver, no-taker, both-known}
+use Rattle.request_codes.proofs.Returns.{no-giver, no-taker, both-known}
 use borrow.Author.Needs.{needs}
 use Rattle.request_codes.proofs.party_code.Statement.{statement}
 use Rattle.request_codes.proofs.party_code.Tie as tie

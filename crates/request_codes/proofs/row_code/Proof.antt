@@ -1,6 +1,6 @@
 -- `request_codes::row_code` meets its contract.
 -- Assumes nothing.
-use Rattle.request_codes.proofs.Ways.{few-rows, few-numbers, enough}
+use Rattle.request_codes.proofs.Returns.{few-rows, few-numbers, enough}
 use borrow.Author.Needs.{needs}
 use Rattle.request_codes.proofs.row_code.Statement.{statement}
 use Rattle.request_codes.proofs.row_code.Tie as tie

@@ -1,7 +1,7 @@
 -- `request_codes::rows_needed` meets its contract.
 -- Assumes nothing.
 use native.Mathlib.Omega.{arith}
-use Rattle.request_codes.proofs.Ways.{two-rows, one-row}
+use Rattle.request_codes.proofs.Returns.{two-rows, one-row}
 use borrow.Author.Needs.{needs}
 use Rattle.request_codes.proofs.rows_needed.Statement.{statement}
 use Rattle.request_codes.proofs.rows_needed.Tie as tie

@@ -1,6 +1,6 @@
 -- `request_codes::settlement_code` meets its contract.
 -- Assumes nothing.
-use Rattle.request_codes.proofs.Ways.{settlement-closed, settlement-past, settlement-good}
+use Rattle.request_codes.proofs.Returns.{settlement-closed, settlement-past, settlement-good}
 use borrow.Author.Needs.{needs}
 use Rattle.request_codes.proofs.settlement_code.Statement.{statement}
 use Rattle.request_codes.proofs.settlement_code.Tie as tie

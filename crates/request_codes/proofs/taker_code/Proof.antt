@@ -1,6 +1,6 @@
 -- `request_codes::taker_code` meets its contract.
 -- Assumes nothing.
-use Rattle.request_codes.proofs.Ways.{giver-takes, giver-enters, not-needed, taker-enters}
+use Rattle.request_codes.proofs.Returns.{giver-takes, giver-enters, not-needed, taker-enters}
 use borrow.Author.Needs.{needs}
 use Rattle.request_codes.proofs.taker_code.Statement.{statement}
 use Rattle.request_codes.proofs.taker_code.Tie as tie

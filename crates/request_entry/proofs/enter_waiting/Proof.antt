@@ -1,7 +1,7 @@
 -- `request_entry::enter_waiting` meets its contract.
 -- Assumes nothing.
 use Rattle.book.specs.State.{state}
-use Rattle.request_entry.proofs.Ways.{waiting-written}
+use Rattle.request_entry.proofs.Returns.{waiting-written}
 use borrow.Author.Needs.{needs}
 use Rattle.request_entry.proofs.enter_waiting.Statement.{statement}
 use Rattle.request_entry.proofs.enter_waiting.Tie as tie

@@ -1,7 +1,7 @@
 -- `request_entry::enter_with_equal` meets its contract.
 -- Assumes nothing.
 use Rattle.book.specs.State.{state}
-use Rattle.request_entry.proofs.Ways.{equal-written}
+use Rattle.request_entry.proofs.Returns.{equal-written}
 use borrow.Author.Needs.{needs}
 use Rattle.request_entry.proofs.enter_with_equal.Statement.{statement}
 use Rattle.request_entry.proofs.enter_with_equal.Tie as tie

@@ -2,7 +2,7 @@
 -- Assumes nothing.
 use Prim.Native.Nat.{_<_}
 use Rattle.book.specs.State.{state}
-use Rattle.request_entry.proofs.Ways.{second-below, taker-written}
+use Rattle.request_entry.proofs.Returns.{second-below, taker-written}
 use borrow.Author.Needs.{needs}
 use Rattle.request_entry.proofs.enter_with_taker.Statement.{statement}
 use Rattle.request_entry.proofs.enter_with_taker.Tie as tie

@@ -1,6 +1,6 @@
 -- `request_entry::join_exposure` meets its contract.
 -- Assumes nothing.
-use Rattle.request_entry.proofs.Ways.{entry-fop, no-exposure, old-exposure, new-row, new-exposure}
+use Rattle.request_entry.proofs.Returns.{entry-fop, no-exposure, old-exposure, new-row, new-exposure}
 use borrow.Author.Needs.{needs}
 use Rattle.request_entry.proofs.join_exposure.Statement.{statement}
 use Rattle.request_entry.proofs.join_exposure.Tie as tie

@@ -1,7 +1,7 @@
 -- `request_rows::fill_row` meets its contract.
 -- Assumes nothing.
 use Rattle.book.specs.State.{state}
-use Rattle.request_rows.proofs.Ways.{row-filled}
+use Rattle.request_rows.proofs.Returns.{row-filled}
 use borrow.Author.Needs.{needs}
 use Rattle.request_rows.proofs.fill_row.Statement.{statement}
 use Rattle.request_rows.proofs.fill_row.Tie as tie

@@ -1,7 +1,7 @@
 -- `request_rows::partial_mark` meets its contract.
 -- Assumes nothing.
 use native.Mathlib.Omega.{arith}
-use Rattle.request_rows.proofs.Ways.{giver-whole, taker-whole, both-partial}
+use Rattle.request_rows.proofs.Returns.{giver-whole, taker-whole, both-partial}
 use borrow.Author.Needs.{needs}
 use Rattle.request_rows.proofs.partial_mark.Statement.{statement}
 use Rattle.request_rows.proofs.partial_mark.Tie as tie

@@ -1,6 +1,6 @@
 -- `request_rows::reference_in` meets its contract.
 -- Assumes nothing.
-use Rattle.request_rows.proofs.Ways.{fop-reference, return-reference}
+use Rattle.request_rows.proofs.Returns.{fop-reference, return-reference}
 use borrow.Author.Needs.{needs}
 use Rattle.request_rows.proofs.reference_in.Statement.{statement}
 use Rattle.request_rows.proofs.reference_in.Tie as tie

@@ -1,6 +1,6 @@
 -- `request_rows::write_parties` meets its contract.
 -- Assumes nothing.
-use Rattle.request_rows.proofs.Ways.{parties-written}
+use Rattle.request_rows.proofs.Returns.{parties-written}
 use borrow.Author.Needs.{needs}
 use Rattle.request_rows.proofs.write_parties.Statement.{statement}
 use Rattle.request_rows.proofs.write_parties.Tie as tie

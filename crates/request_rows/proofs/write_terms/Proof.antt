@@ -1,7 +1,7 @@
 -- `request_rows::write_terms` meets its contract.
 -- Assumes nothing.
 use Rattle.book.specs.State.{state}
-use Rattle.request_rows.proofs.Ways.{terms-written}
+use Rattle.request_rows.proofs.Returns.{terms-written}
 use borrow.Author.Needs.{needs}
 use Rattle.request_rows.proofs.write_terms.Statement.{statement}
 use Rattle.request_rows.proofs.write_terms.Tie as tie

@@ -1,6 +1,6 @@
 -- `request_search::accepts_giver` meets its contract.
 -- Assumes nothing.
-use Rattle.request_search.proofs.Ways.{automatic, by-list, by-hand}
+use Rattle.request_search.proofs.Returns.{automatic, by-list, by-hand}
 use borrow.Author.Needs.{needs}
 use Rattle.request_search.proofs.accepts_giver.Statement.{statement}
 use Rattle.request_search.proofs.accepts_giver.Tie as tie

@@ -1,6 +1,6 @@
 -- `request_search::closing_in` meets its contract.
 -- Assumes nothing.
-use Rattle.request_search.proofs.Ways.{fop-closing, no-closing}
+use Rattle.request_search.proofs.Returns.{fop-closing, no-closing}
 use borrow.Author.Needs.{needs}
 use Rattle.request_search.proofs.closing_in.Statement.{statement}
 use Rattle.request_search.proofs.closing_in.Tie as tie

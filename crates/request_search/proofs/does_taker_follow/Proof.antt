@@ -1,6 +1,6 @@
 -- `request_search::does_taker_follow` meets its contract.
 -- Assumes nothing.
-use Rattle.request_search.proofs.Ways.{takers-own, by-acceptance}
+use Rattle.request_search.proofs.Returns.{takers-own, by-acceptance}
 use borrow.Author.Needs.{needs}
 use Rattle.request_search.proofs.does_taker_follow.Statement.{statement}
 use Rattle.request_search.proofs.does_taker_follow.Tie as tie

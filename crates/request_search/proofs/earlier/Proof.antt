@@ -1,6 +1,6 @@
 -- `request_search::earlier` meets its contract.
 -- Assumes nothing.
-use Rattle.request_search.proofs.Ways.{best-stays, first-equal, earlier-equal, later-equal}
+use Rattle.request_search.proofs.Returns.{best-stays, first-equal, earlier-equal, later-equal}
 use borrow.Author.Needs.{needs}
 use Rattle.request_search.proofs.earlier.Statement.{statement}
 use Rattle.request_search.proofs.earlier.Tie as tie

@@ -8,7 +8,7 @@ use Rattle.book.specs.Layout.{numbers}
 use Rattle.book.specs.State.{state}
 use Rattle.rules.specs.Requesting.{isEqual, earliestEqual}
 use Rattle.request_search.proofs.Searches.{leastBy-first}
-use Rattle.request_search.proofs.Ways.{earlier-of-all}
+use Rattle.request_search.proofs.Returns.{earlier-of-all}
 use borrow.Author.Needs.{needs}
 use Rattle.request_search.proofs.earliest_equal.Statement.{statement}
 use Rattle.request_search.proofs.earliest_equal.Tie as tie

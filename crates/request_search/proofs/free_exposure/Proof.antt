@@ -4,7 +4,7 @@ use mathlib.Core.Path.{refl, sym, _∙_}
 use Prim.Native.Nat.{_-_, _≤_}
 use native.Mathlib.Omega.{arith}
 use lib.Dec.{eqb}
-use Rattle.book.specs.Layout.{useds}
+use Rattle.book.specs.Layout.{inUse}
 use Rattle.book.specs.State.{state}
 use Rattle.rules.specs.Requests.{freeExposure}
 use Rattle.request_search.proofs.Searches.{Ahead, found, onward, nowhere}
@@ -14,7 +14,7 @@ use Rattle.request_search.proofs.free_exposure.Statement.{statement}
 use Rattle.request_search.proofs.free_exposure.Tie as tie
 
 abbrev Inv-loop : tie.InvT-loop
-Inv-loop book e₀ e = (e ≤ 64) × Ahead (λ i. eqb (state book useds i) 0) 64 e (freeExposure (state book))
+Inv-loop book e₀ e = (e ≤ 64) × Ahead (λ i. eqb (state book inUse i) 0) 64 e (freeExposure (state book))
 
 abbrev μ-loop : tie.MeasureT-loop
 μ-loop book e₀ e = 64 - e
@@ -28,7 +28,7 @@ get-requires c κs = search needs
 returns : tie.Need-returns Inv-loop μ-loop
 returns c =
     let l = c .before .before .before in
-    let x = state (l .before .before .args .book .now) useds (l .loop .e) in
+    let x = state (l .before .before .args .book .now) inUse (l .loop .e) in
     found (l .loop .inv .1) (c .before .before .loop-test .taken) (eq-eqb x 0 (sym (c .before .get .ensures) ∙ c .if1 .taken))
 
 add-e : tie.Need-add-e Inv-loop μ-loop
@@ -40,7 +40,7 @@ loop-less c = search needs
 loop-again : tie.Need-loop-again Inv-loop μ-loop
 loop-again c =
     let l = c .before .before .before in
-    let x = state (l .before .before .args .book .now) useds (l .loop .e) in
+    let x = state (l .before .before .args .book .now) inUse (l .loop .e) in
     (omega arith, onward (l .loop .inv .1) (c .before .before .loop-test .taken) (ne-eqb x 0 (λ z. c .if1 .left (c .before .get .ensures ∙ z))))
 
 returns-2 : tie.Need-returns-2 Inv-loop μ-loop

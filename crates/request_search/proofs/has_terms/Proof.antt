@@ -1,6 +1,6 @@
 -- `request_search::has_terms` meets its contract.
 -- Assumes nothing.
-use Rattle.request_search.proofs.Ways.{other-amount, other-settlement, other-object, by-closing}
+use Rattle.request_search.proofs.Returns.{other-amount, other-settlement, other-object, by-closing}
 use borrow.Author.Needs.{needs}
 use Rattle.request_search.proofs.has_terms.Statement.{statement}
 use Rattle.request_search.proofs.has_terms.Tie as tie

@@ -1,6 +1,6 @@
 -- `request_search::is_equal` meets its contract.
 -- Assumes nothing.
-use Rattle.request_search.proofs.Ways.{by-waiting, not-equal}
+use Rattle.request_search.proofs.Returns.{by-waiting, not-equal}
 use borrow.Author.Needs.{needs}
 use Rattle.request_search.proofs.is_equal.Statement.{statement}
 use Rattle.request_search.proofs.is_equal.Tie as tie

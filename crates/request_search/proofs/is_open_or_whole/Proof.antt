@@ -1,6 +1,6 @@
 -- `request_search::is_open_or_whole` meets its contract.
 -- Assumes nothing.
-use Rattle.request_search.proofs.Ways.{not-ended, by-whole}
+use Rattle.request_search.proofs.Returns.{not-ended, by-whole}
 use borrow.Author.Needs.{needs}
 use Rattle.request_search.proofs.is_open_or_whole.Statement.{statement}
 use Rattle.request_search.proofs.is_open_or_whole.Tie as tie

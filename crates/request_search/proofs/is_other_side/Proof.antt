@@ -1,6 +1,6 @@
 -- `request_search::is_other_side` meets its contract.
 -- Assumes nothing.
-use Rattle.request_search.proofs.Ways.{other-terms, other-giver, other-taker, other-kind, by-side}
+use Rattle.request_search.proofs.Returns.{other-terms, other-giver, other-taker, other-kind, by-side}
 use borrow.Author.Needs.{needs}
 use Rattle.request_search.proofs.is_other_side.Statement.{statement}
 use Rattle.request_search.proofs.is_other_side.Tie as tie

@@ -1,6 +1,6 @@
 -- `request_search::is_own_request` meets its contract.
 -- Assumes nothing.
-use Rattle.request_search.proofs.Ways.{other-number, number-none, ended-part, by-owner}
+use Rattle.request_search.proofs.Returns.{other-number, number-none, ended-part, by-owner}
 use borrow.Author.Needs.{needs}
 use Rattle.request_search.proofs.is_own_request.Statement.{statement}
 use Rattle.request_search.proofs.is_own_request.Tie as tie

@@ -1,6 +1,6 @@
 -- `request_search::is_owner` meets its contract.
 -- Assumes nothing.
-use Rattle.request_search.proofs.Ways.{giver-owns, taker-owns, no-owner}
+use Rattle.request_search.proofs.Returns.{giver-owns, taker-owns, no-owner}
 use borrow.Author.Needs.{needs}
 use Rattle.request_search.proofs.is_owner.Statement.{statement}
 use Rattle.request_search.proofs.is_owner.Tie as tie

@@ -1,6 +1,6 @@
 -- `request_search::is_waiting` meets its contract.
 -- Assumes nothing.
-use Rattle.request_search.proofs.Ways.{not-used, paired-already, ended-already, by-rest}
+use Rattle.request_search.proofs.Returns.{not-used, paired-already, ended-already, by-rest}
 use borrow.Author.Needs.{needs}
 use Rattle.request_search.proofs.is_waiting.Statement.{statement}
 use Rattle.request_search.proofs.is_waiting.Tie as tie

@@ -1,8 +1,8 @@
 -- `requests::cancel` meets its contract.
 -- Assumes nothing.
 use Prim.Native.Nat.{_<_}
-use Rattle.requests.proofs.Rooms.{cancel-below, cancel-pair}
-use Rattle.requests.proofs.StepWays.{cancelled-silent, cancelled-alone, cancelled-paired}
+use Rattle.requests.proofs.Capacity.{cancel-below, cancel-pair}
+use Rattle.requests.proofs.StepReturns.{cancelled-silent, cancelled-alone, cancelled-paired}
 use borrow.Author.Needs.{needs}
 use Rattle.requests.proofs.cancel.Statement.{statement}
 use Rattle.requests.proofs.cancel.Tie as tie

@@ -1,9 +1,9 @@
 -- `requests::cancel_code` meets its contract.
 -- Assumes nothing.
 use Prim.Native.Nat.{_<_}
-use Rattle.requests.proofs.CodeWays.{cancel-unknown, cancel-none, cancel-settled, cancel-accepted}
+use Rattle.requests.proofs.CodeReturns.{cancel-unknown, cancel-none, cancel-settled, cancel-accepted}
 use Rattle.requests.proofs.Legal.{owner-in}
-use Rattle.requests.proofs.Rooms.{own-below}
+use Rattle.requests.proofs.Capacity.{own-below}
 use borrow.Author.Needs.{needs}
 use Rattle.requests.proofs.cancel_code.Statement.{statement}
 use Rattle.requests.proofs.cancel_code.Tie as tie

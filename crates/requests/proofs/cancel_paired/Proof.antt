@@ -1,6 +1,6 @@
 -- `requests::cancel_paired` meets its contract.
 -- Assumes nothing.
-use Rattle.requests.proofs.StepWays.{pair-ended, cancel-noted}
+use Rattle.requests.proofs.StepReturns.{pair-ended, cancel-noted}
 use borrow.Author.Needs.{needs}
 use Rattle.requests.proofs.cancel_paired.Statement.{statement}
 use Rattle.requests.proofs.cancel_paired.Tie as tie

@@ -1,6 +1,6 @@
 -- `requests::does_pair_end` meets its contract.
 -- Assumes nothing.
-use Rattle.requests.proofs.StepWays.{both-cancelled, taker-cancels, by-accepting}
+use Rattle.requests.proofs.StepReturns.{both-cancelled, taker-cancels, by-accepting}
 use borrow.Author.Needs.{needs}
 use Rattle.requests.proofs.does_pair_end.Statement.{statement}
 use Rattle.requests.proofs.does_pair_end.Tie as tie

@@ -1,7 +1,7 @@
 -- `requests::enter` meets its contract.
 -- Assumes nothing.
 use Rattle.book.specs.State.{state}
-use Rattle.requests.proofs.StepWays.{two-rows-room, taker-room, equal-room, entered-with-taker, entered-waiting, entered-with-equal}
+use Rattle.requests.proofs.StepReturns.{two-rows-room, taker-room, equal-room, entered-with-taker, entered-waiting, entered-with-equal}
 use borrow.Author.Needs.{needs}
 use Rattle.requests.proofs.enter.Statement.{statement}
 use Rattle.requests.proofs.enter.Tie as tie

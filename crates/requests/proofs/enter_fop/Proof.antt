@@ -1,7 +1,7 @@
 -- `requests::enter_fop` meets its contract.
 -- Assumes nothing.
 use Rattle.requests.proofs.Legal.{fop-in}
-use Rattle.requests.proofs.Rooms.{fop-room}
+use Rattle.requests.proofs.Capacity.{fop-room}
 use borrow.Author.Needs.{needs}
 use Rattle.requests.proofs.enter_fop.Statement.{statement}
 use Rattle.requests.proofs.enter_fop.Tie as tie

@@ -1,7 +1,7 @@
 -- `requests::enter_return` meets its contract.
 -- Assumes nothing.
 use Rattle.requests.proofs.Legal.{return-in}
-use Rattle.requests.proofs.Rooms.{return-room}
+use Rattle.requests.proofs.Capacity.{return-room}
 use borrow.Author.Needs.{needs}
 use Rattle.requests.proofs.enter_return.Statement.{statement}
 use Rattle.requests.proofs.enter_return.Tie as tie

@@ -1,6 +1,6 @@
 -- `requests::fop_code` meets its contract.
 -- Assumes nothing.
-use Rattle.requests.proofs.CodeWays.{low-amount, fop-name, fop-taker, fop-rows, fop-exposure}
+use Rattle.requests.proofs.CodeReturns.{low-amount, fop-name, fop-taker, fop-rows, fop-exposure}
 use Rattle.requests.proofs.Legal.{fop-fields, basket-in}
 use borrow.Author.Needs.{needs}
 use Rattle.requests.proofs.fop_code.Statement.{statement}

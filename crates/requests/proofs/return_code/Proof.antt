@@ -1,6 +1,6 @@
 -- `requests::return_code` meets its contract.
 -- Assumes nothing.
-use Rattle.requests.proofs.CodeWays.{return-party, return-settlement, return-taker, return-exposure, return-rows}
+use Rattle.requests.proofs.CodeReturns.{return-party, return-settlement, return-taker, return-exposure, return-rows}
 use Rattle.requests.proofs.Legal.{return-fields}
 use borrow.Author.Needs.{needs}
 use Rattle.requests.proofs.return_code.Statement.{statement}

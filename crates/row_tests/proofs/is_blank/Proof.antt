@@ -6,7 +6,7 @@ use Rattle.laws.proofs.Least.{Rest, loop-fails, loop-passes, loop-ends}
 use lib.Dec.{eqb}
 use Rattle.book.specs.State.{state}
 use Rattle.rules.specs.Sound.{blank}
-use Rattle.row_tests.proofs.Ways.{loop-starts}
+use Rattle.row_tests.proofs.Returns.{loop-starts}
 use borrow.Author.Needs.{needs}
 use Rattle.row_tests.proofs.is_blank.Statement.{statement}
 use Rattle.row_tests.proofs.is_blank.Tie as tie

@@ -1,6 +1,6 @@
 -- `row_tests::is_same` meets its contract.
 -- Assumes nothing.
-use Rattle.row_tests.proofs.Ways.{by-two}
+use Rattle.row_tests.proofs.Returns.{by-two}
 use borrow.Author.Needs.{needs}
 use Rattle.row_tests.proofs.is_same.Statement.{statement}
 use Rattle.row_tests.proofs.is_same.Tie as tie

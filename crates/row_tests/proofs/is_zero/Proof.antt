@@ -1,6 +1,6 @@
 -- `row_tests::is_zero` meets its contract.
 -- Assumes nothing.
-use Rattle.row_tests.proofs.Ways.{by-one}
+use Rattle.row_tests.proofs.Returns.{by-one}
 use borrow.Author.Needs.{needs}
 use Rattle.row_tests.proofs.is_zero.Statement.{statement}
 use Rattle.row_tests.proofs.is_zero.Tie as tie

@@ -1,7 +1,7 @@
 -- `setup::basket_code` meets its contract.
 -- Assumes nothing.
 use Rattle.setup.proofs.Ranges.{basket-in}
-use Rattle.setup.proofs.Ways.{basket-new, basket-again}
+use Rattle.setup.proofs.Returns.{basket-new, basket-again}
 use borrow.Author.Needs.{needs}
 use Rattle.setup.proofs.basket_code.Statement.{statement}
 use Rattle.setup.proofs.basket_code.Tie as tie

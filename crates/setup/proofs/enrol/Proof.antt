@@ -2,7 +2,7 @@
 -- Assumes nothing.
 use Rattle.book.specs.State.{state}
 use Rattle.setup.proofs.Ranges.{participant-in}
-use Rattle.setup.proofs.Ways.{enrolled-first, enrolled-later}
+use Rattle.setup.proofs.Returns.{enrolled-first, enrolled-later}
 use borrow.Author.Needs.{needs}
 use Rattle.setup.proofs.enrol.Statement.{statement}
 use Rattle.setup.proofs.enrol.Tie as tie

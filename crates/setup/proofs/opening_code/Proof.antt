@@ -1,6 +1,6 @@
 -- `setup::opening_code` meets its contract.
 -- Assumes nothing.
-use Rattle.setup.proofs.Ways.{opening-open, opening-closed}
+use Rattle.setup.proofs.Returns.{opening-open, opening-closed}
 use borrow.Author.Needs.{needs}
 use Rattle.setup.proofs.opening_code.Statement.{statement}
 use Rattle.setup.proofs.opening_code.Tie as tie

@@ -3,7 +3,7 @@
 use mathlib.Core.Logic.{⊎-elim}
 use Rattle.book.specs.State.{state}
 use Rattle.setup.proofs.Ranges.{price-in}
-use Rattle.setup.proofs.Ways.{LotKept, first-lot, same-lot, other-lot, quote-closed, quote-late, price-accepted}
+use Rattle.setup.proofs.Returns.{LotKept, first-lot, same-lot, other-lot, quote-closed, quote-late, price-accepted}
 use borrow.Author.Needs.{needs}
 use Rattle.setup.proofs.price_code.Statement.{statement}
 use Rattle.setup.proofs.price_code.Tie as tie

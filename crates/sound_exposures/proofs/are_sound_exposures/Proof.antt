@@ -9,7 +9,7 @@ use Rattle.book.specs.State.{state}
 use Rattle.rules.specs.Sound.{soundExposure}
 use Rattle.open_days.specs.Days.{OpenDays}
 use Rattle.open_days.proofs.Days.{days-start}
-use Rattle.sound_setup.proofs.Ways.{passed}
+use Rattle.sound_setup.proofs.Returns.{passed}
 use borrow.Author.Needs.{needs}
 use Rattle.sound_exposures.proofs.are_sound_exposures.Statement.{statement}
 use Rattle.sound_exposures.proofs.are_sound_exposures.Tie as tie

@@ -1,6 +1,6 @@
 -- `sound_exposures::has_other_key` meets its contract.
 -- Assumes nothing.
-use Rattle.sound_exposures.proofs.Ways.{in-exposures, other-unused, by-key}
+use Rattle.sound_exposures.proofs.Returns.{in-exposures, other-unused, by-key}
 use native.Mathlib.Omega.{arith}
 use borrow.Author.Needs.{needs}
 use Rattle.sound_exposures.proofs.has_other_key.Statement.{statement}

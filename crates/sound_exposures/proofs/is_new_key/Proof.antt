@@ -1,7 +1,7 @@
 -- `sound_exposures::is_new_key` meets its contract.
 -- Assumes nothing.
 use Rattle.sound_exposures.proofs.Keys.{key-not-marked}
-use Rattle.sound_exposures.proofs.Ways.{no-key}
+use Rattle.sound_exposures.proofs.Returns.{no-key}
 use borrow.Author.Needs.{needs}
 use Rattle.sound_exposures.proofs.is_new_key.Statement.{statement}
 use Rattle.sound_exposures.proofs.is_new_key.Tie as tie
@@ -12,8 +12,8 @@ get-requires c κs = search needs
 returns : tie.Need-returns
 returns c = search no-key
 
-place-of-requires : tie.Need-place-of-requires
-place-of-requires c κs = search needs
+slot-of-requires : tie.Need-slot-of-requires
+slot-of-requires c κs = search needs
 
 element-copy-out-if2 : tie.Need-element-copy-out-if2
 element-copy-out-if2 c = search needs
@@ -33,7 +33,7 @@ is-new-key-spec =
     (tie.spec
     get-requires
     returns
-    place-of-requires
+    slot-of-requires
     element-copy-out-if2
     returns-2
     is-distinct-key-requires

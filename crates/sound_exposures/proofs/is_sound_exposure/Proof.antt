@@ -1,6 +1,6 @@
 -- `sound_exposures::is_sound_exposure` meets its contract.
 -- Assumes nothing.
-use Rattle.sound_exposures.proofs.Ways.{in-exposures, unused, bad-mark, bad-parties, bad-basket, bad-closing, by-amount}
+use Rattle.sound_exposures.proofs.Returns.{in-exposures, unused, bad-mark, bad-parties, bad-basket, bad-closing, by-amount}
 use native.Mathlib.Omega.{arith}
 use borrow.Author.Needs.{needs}
 use Rattle.sound_exposures.proofs.is_sound_exposure.Statement.{statement}

@@ -5,8 +5,8 @@ use borrow.Author.Needs.{needs}
 use Rattle.sound_exposures.proofs.mark_key.Statement.{statement}
 use Rattle.sound_exposures.proofs.mark_key.Tie as tie
 
-place-of-requires : tie.Need-place-of-requires
-place-of-requires c κs = search needs
+slot-of-requires : tie.Need-slot-of-requires
+slot-of-requires c κs = search needs
 
 element-write-marks : tie.Need-element-write-marks
 element-write-marks c = search needs
@@ -15,4 +15,4 @@ returns : tie.Need-returns
 returns c = search keys-marked-next
 
 pub mark-key-spec : {M : Type 1} → statement M
-mark-key-spec = tie.close (tie.spec place-of-requires element-write-marks returns)
+mark-key-spec = tie.close (tie.spec slot-of-requires element-write-marks returns)

@@ -1,6 +1,6 @@
 -- `sound_exposures::note_closing` meets its contract.
 -- Assumes nothing.
-use Rattle.sound_exposures.proofs.Ways.{closing-open}
+use Rattle.sound_exposures.proofs.Returns.{closing-open}
 use borrow.Author.Needs.{needs}
 use Rattle.sound_exposures.proofs.note_closing.Statement.{statement}
 use Rattle.sound_exposures.proofs.note_closing.Tie as tie

@@ -1,6 +1,6 @@
 -- `sound_fields::are_sound_fields` meets its contract.
 -- Assumes nothing.
-use Rattle.sound_fields.proofs.Ways.{late-number, bad-side, bad-parties, bad-kind, bad-settlement, by-marks}
+use Rattle.sound_fields.proofs.Returns.{late-number, bad-side, bad-parties, bad-kind, bad-settlement, by-marks}
 use borrow.Author.Needs.{needs}
 use Rattle.sound_fields.proofs.are_sound_fields.Statement.{statement}
 use Rattle.sound_fields.proofs.are_sound_fields.Tie as tie

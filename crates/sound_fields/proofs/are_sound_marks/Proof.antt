@@ -1,6 +1,6 @@
 -- `sound_fields::are_sound_marks` meets its contract.
 -- Assumes nothing.
-use Rattle.sound_fields.proofs.Ways.{too-much, bad-partial, bad-cancel, by-end}
+use Rattle.sound_fields.proofs.Returns.{too-much, bad-partial, bad-cancel, by-end}
 use Rattle.sound_fields.proofs.are_sound_marks.Statement.{statement}
 use Rattle.sound_fields.proofs.are_sound_marks.Tie as tie
 

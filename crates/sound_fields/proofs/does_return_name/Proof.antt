@@ -1,6 +1,6 @@
 -- `sound_fields::does_return_name` meets its contract.
 -- Assumes nothing.
-use Rattle.sound_fields.proofs.Ways.{names-none, names-unused, names-other, by-taker}
+use Rattle.sound_fields.proofs.Returns.{names-none, names-unused, names-other, by-taker}
 use borrow.Author.Needs.{needs}
 use Rattle.sound_fields.proofs.does_return_name.Statement.{statement}
 use Rattle.sound_fields.proofs.does_return_name.Tie as tie

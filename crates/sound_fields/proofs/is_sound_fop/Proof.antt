@@ -1,6 +1,6 @@
 -- `sound_fields::is_sound_fop` meets its contract.
 -- Assumes nothing.
-use Rattle.sound_fields.proofs.Ways.{fop-basket, fop-amount, by-closing}
+use Rattle.sound_fields.proofs.Returns.{fop-basket, fop-amount, by-closing}
 use borrow.Author.Needs.{needs}
 use Rattle.sound_fields.proofs.is_sound_fop.Statement.{statement}
 use Rattle.sound_fields.proofs.is_sound_fop.Tie as tie

@@ -1,6 +1,6 @@
 -- `sound_fields::is_sound_kind` meets its contract.
 -- Assumes nothing.
-use Rattle.sound_fields.proofs.Ways.{by-fop, by-return, no-kind}
+use Rattle.sound_fields.proofs.Returns.{by-fop, by-return, no-kind}
 use borrow.Author.Needs.{needs}
 use Rattle.sound_fields.proofs.is_sound_kind.Statement.{statement}
 use Rattle.sound_fields.proofs.is_sound_kind.Tie as tie

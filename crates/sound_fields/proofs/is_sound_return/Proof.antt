@@ -1,6 +1,6 @@
 -- `sound_fields::is_sound_return` meets its contract.
 -- Assumes nothing.
-use Rattle.sound_fields.proofs.Ways.{return-exposure, return-amount, by-no-closing}
+use Rattle.sound_fields.proofs.Returns.{return-exposure, return-amount, by-no-closing}
 use borrow.Author.Needs.{needs}
 use Rattle.sound_fields.proofs.is_sound_return.Statement.{statement}
 use Rattle.sound_fields.proofs.is_sound_return.Tie as tie

@@ -1,6 +1,6 @@
 -- `sound_pairs::are_marks_alike` meets its contract.
 -- Assumes nothing.
-use Rattle.sound_pairs.proofs.Ways.{other-settled, other-end, by-partial}
+use Rattle.sound_pairs.proofs.Returns.{other-settled, other-end, by-partial}
 use borrow.Author.Needs.{needs}
 use Rattle.sound_pairs.proofs.are_marks_alike.Statement.{statement}
 use Rattle.sound_pairs.proofs.are_marks_alike.Tie as tie

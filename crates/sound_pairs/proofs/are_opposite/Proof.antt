@@ -1,6 +1,6 @@
 -- `sound_pairs::are_opposite` meets its contract.
 -- Assumes nothing.
-use Rattle.sound_pairs.proofs.Ways.{first-giver, first-taker, no-side}
+use Rattle.sound_pairs.proofs.Returns.{first-giver, first-taker, no-side}
 use Rattle.sound_pairs.proofs.are_opposite.Statement.{statement}
 use Rattle.sound_pairs.proofs.are_opposite.Tie as tie
 

@@ -1,6 +1,6 @@
 -- `sound_pairs::does_belong` meets its contract.
 -- Assumes nothing.
-use Rattle.sound_pairs.proofs.Ways.{return-belongs, by-exposure}
+use Rattle.sound_pairs.proofs.Returns.{return-belongs, by-exposure}
 use borrow.Author.Needs.{needs}
 use Rattle.sound_pairs.proofs.does_belong.Statement.{statement}
 use Rattle.sound_pairs.proofs.does_belong.Tie as tie

@@ -1,6 +1,6 @@
 -- `sound_pairs::is_sound_pair` meets its contract.
 -- Assumes nothing.
-use Rattle.sound_pairs.proofs.Ways.{no-partner, not-named, same-side, other-kind, other-terms, by-pair-marks}
+use Rattle.sound_pairs.proofs.Returns.{no-partner, not-named, same-side, other-kind, other-terms, by-pair-marks}
 use borrow.Author.Needs.{needs}
 use Rattle.sound_pairs.proofs.is_sound_pair.Statement.{statement}
 use Rattle.sound_pairs.proofs.is_sound_pair.Tie as tie

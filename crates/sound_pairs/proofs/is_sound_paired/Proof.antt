@@ -1,6 +1,6 @@
 -- `sound_pairs::is_sound_paired` meets its contract.
 -- Assumes nothing.
-use Rattle.sound_pairs.proofs.Ways.{bad-pair, by-belonging}
+use Rattle.sound_pairs.proofs.Returns.{bad-pair, by-belonging}
 use borrow.Author.Needs.{needs}
 use Rattle.sound_pairs.proofs.is_sound_paired.Statement.{statement}
 use Rattle.sound_pairs.proofs.is_sound_paired.Tie as tie

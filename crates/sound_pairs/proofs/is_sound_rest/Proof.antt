@@ -1,6 +1,6 @@
 -- `sound_pairs::is_sound_rest` meets its contract.
 -- Assumes nothing.
-use Rattle.sound_pairs.proofs.Ways.{by-unpaired, by-paired}
+use Rattle.sound_pairs.proofs.Returns.{by-unpaired, by-paired}
 use borrow.Author.Needs.{needs}
 use Rattle.sound_pairs.proofs.is_sound_rest.Statement.{statement}
 use Rattle.sound_pairs.proofs.is_sound_rest.Tie as tie

@@ -1,6 +1,6 @@
 -- `sound_pairs::is_sound_unpaired` meets its contract.
 -- Assumes nothing.
-use Rattle.sound_pairs.proofs.Ways.{some-settled, by-no-partial}
+use Rattle.sound_pairs.proofs.Returns.{some-settled, by-no-partial}
 use Rattle.sound_pairs.proofs.is_sound_unpaired.Statement.{statement}
 use Rattle.sound_pairs.proofs.is_sound_unpaired.Tie as tie
 

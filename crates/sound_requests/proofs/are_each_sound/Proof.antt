@@ -8,7 +8,7 @@ use Rattle.laws.proofs.Least.{Rest, loop-fails, loop-passes, loop-ends}
 use Rattle.book.specs.State.{state}
 use Rattle.rules.specs.Sound.{soundRow}
 use Rattle.open_days.specs.Days.{OpenDays}
-use Rattle.sound_setup.proofs.Ways.{passed}
+use Rattle.sound_setup.proofs.Returns.{passed}
 use Rattle.sound_requests.specs.Rows.{Passed}
 use Rattle.sound_requests.proofs.Blocks.{sixteen-starts}
 use Rattle.sound_requests.proofs.Later.{passed-next}

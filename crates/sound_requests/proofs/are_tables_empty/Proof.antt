@@ -5,7 +5,7 @@ use native.Mathlib.Omega.{arith}
 use Rattle.laws.proofs.Least.{Rest, loop-fails, loop-passes, loop-ends}
 use Rattle.book.specs.State.{state}
 use Rattle.row_tests.specs.Bytes.{emptyRows}
-use Rattle.row_tests.proofs.Ways.{loop-starts}
+use Rattle.row_tests.proofs.Returns.{loop-starts}
 use Rattle.sound_requests.specs.Rows.{emptyTables}
 use borrow.Author.Needs.{needs}
 use Rattle.sound_requests.proofs.are_tables_empty.Statement.{statement}

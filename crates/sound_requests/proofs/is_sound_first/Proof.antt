@@ -1,6 +1,6 @@
 -- `sound_requests::is_sound_first` meets its contract.
 -- Assumes nothing.
-use Rattle.sound_requests.proofs.Ways.{bad-fields, by-rest}
+use Rattle.sound_requests.proofs.Returns.{bad-fields, by-rest}
 use borrow.Author.Needs.{needs}
 use Rattle.sound_requests.proofs.is_sound_first.Statement.{statement}
 use Rattle.sound_requests.proofs.is_sound_first.Tie as tie

@@ -1,7 +1,7 @@
 -- `sound_requests::is_sound_row` meets its contract.
 -- Assumes nothing.
 use Rattle.sound_requests.proofs.Later.{later-of}
-use Rattle.sound_requests.proofs.Ways.{by-blank}
+use Rattle.sound_requests.proofs.Returns.{by-blank}
 use borrow.Author.Needs.{needs}
 use Rattle.sound_requests.proofs.is_sound_row.Statement.{statement}
 use Rattle.sound_requests.proofs.is_sound_row.Tie as tie

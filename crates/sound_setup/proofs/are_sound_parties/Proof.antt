@@ -2,7 +2,7 @@
 -- Assumes nothing.
 use native.Mathlib.Omega.{arith}
 use Rattle.book.specs.State.{state}
-use Rattle.sound_setup.proofs.Ways.{no-giver, no-taker, giver-blank, taker-blank, by-parties}
+use Rattle.sound_setup.proofs.Returns.{no-giver, no-taker, giver-blank, taker-blank, by-parties}
 use borrow.Author.Needs.{needs}
 use Rattle.sound_setup.proofs.are_sound_parties.Statement.{statement}
 use Rattle.sound_setup.proofs.are_sound_parties.Tie as tie

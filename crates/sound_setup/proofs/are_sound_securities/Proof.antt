@@ -9,7 +9,7 @@ use Rattle.book.specs.State.{state}
 use Rattle.rules.specs.Sound.{soundSecurity}
 use Rattle.open_days.specs.Days.{OpenDays}
 use Rattle.open_days.proofs.Days.{days-start}
-use Rattle.sound_setup.proofs.Ways.{passed}
+use Rattle.sound_setup.proofs.Returns.{passed}
 use borrow.Author.Needs.{needs}
 use Rattle.sound_setup.proofs.are_sound_securities.Statement.{statement}
 use Rattle.sound_setup.proofs.are_sound_securities.Tie as tie

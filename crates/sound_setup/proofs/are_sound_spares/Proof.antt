@@ -1,6 +1,6 @@
 -- `sound_setup::are_sound_spares` meets its contract.
 -- Assumes nothing.
-use Rattle.sound_setup.proofs.Ways.{by-spares}
+use Rattle.sound_setup.proofs.Returns.{by-spares}
 use borrow.Author.Needs.{needs}
 use Rattle.sound_setup.proofs.are_sound_spares.Statement.{statement}
 use Rattle.sound_setup.proofs.are_sound_spares.Tie as tie

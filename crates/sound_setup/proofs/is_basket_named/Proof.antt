@@ -1,6 +1,6 @@
 -- `sound_setup::is_basket_named` meets its contract.
 -- Assumes nothing.
-use Rattle.sound_setup.proofs.Ways.{no-basket, by-map}
+use Rattle.sound_setup.proofs.Returns.{no-basket, by-map}
 use borrow.Author.Needs.{needs}
 use Rattle.sound_setup.proofs.is_basket_named.Statement.{statement}
 use Rattle.sound_setup.proofs.is_basket_named.Tie as tie

@@ -1,6 +1,6 @@
 -- `sound_setup::is_between` meets its contract.
 -- Assumes nothing.
-use Rattle.sound_setup.proofs.Ways.{below, by-high}
+use Rattle.sound_setup.proofs.Returns.{below, by-high}
 use Rattle.sound_setup.proofs.is_between.Statement.{statement}
 use Rattle.sound_setup.proofs.is_between.Tie as tie
 

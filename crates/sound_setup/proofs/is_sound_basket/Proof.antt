@@ -1,6 +1,6 @@
 -- `sound_setup::is_sound_basket` meets its contract.
 -- Assumes nothing.
-use Rattle.sound_setup.proofs.Ways.{blank-basket, by-age}
+use Rattle.sound_setup.proofs.Returns.{blank-basket, by-age}
 use borrow.Author.Needs.{needs}
 use Rattle.sound_setup.proofs.is_sound_basket.Statement.{statement}
 use Rattle.sound_setup.proofs.is_sound_basket.Tie as tie

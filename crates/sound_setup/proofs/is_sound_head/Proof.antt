@@ -1,6 +1,6 @@
 -- `sound_setup::is_sound_head` meets its contract.
 -- Assumes nothing.
-use Rattle.sound_setup.proofs.Ways.{closed-head, tolerance-head, by-number}
+use Rattle.sound_setup.proofs.Returns.{closed-head, tolerance-head, by-number}
 use borrow.Author.Needs.{needs}
 use Rattle.sound_setup.proofs.is_sound_head.Statement.{statement}
 use Rattle.sound_setup.proofs.is_sound_head.Tie as tie

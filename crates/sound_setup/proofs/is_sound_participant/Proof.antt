@@ -1,7 +1,7 @@
 -- `sound_setup::is_sound_participant` meets its contract.
 -- Assumes nothing.
 use Rattle.book.specs.State.{state}
-use Rattle.sound_setup.proofs.Ways.{InForce, Waits, in-force-fails, in-force-passes, waits-fails, waits-passes, by-mode, by-waiting}
+use Rattle.sound_setup.proofs.Returns.{InForce, Waits, in-force-fails, in-force-passes, waits-fails, waits-passes, by-mode, by-waiting}
 use borrow.Author.Needs.{needs}
 use Rattle.sound_setup.proofs.is_sound_participant.Statement.{statement}
 use Rattle.sound_setup.proofs.is_sound_participant.Tie as tie

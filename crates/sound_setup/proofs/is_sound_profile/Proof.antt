@@ -1,6 +1,6 @@
 -- `sound_setup::is_sound_profile` meets its contract.
 -- Assumes nothing.
-use Rattle.sound_setup.proofs.Ways.{blank-list, blank-profile, no-mode, by-partial}
+use Rattle.sound_setup.proofs.Returns.{blank-list, blank-profile, no-mode, by-partial}
 use Rattle.sound_setup.proofs.is_sound_profile.Statement.{statement}
 use Rattle.sound_setup.proofs.is_sound_profile.Tie as tie
 

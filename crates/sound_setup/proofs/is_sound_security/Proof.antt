@@ -1,6 +1,6 @@
 -- `sound_setup::is_sound_security` meets its contract.
 -- Assumes nothing.
-use Rattle.sound_setup.proofs.Ways.{blank-price, blank-haircut, blank-security, large-lot, wide-price, large-haircut, by-quote}
+use Rattle.sound_setup.proofs.Returns.{blank-price, blank-haircut, blank-security, large-lot, wide-price, large-haircut, by-quote}
 use borrow.Author.Needs.{needs}
 use Rattle.sound_setup.proofs.is_sound_security.Statement.{statement}
 use Rattle.sound_setup.proofs.is_sound_security.Tie as tie

@@ -1,6 +1,6 @@
 -- `sound_setup::note_quote` meets its contract.
 -- Assumes nothing.
-use Rattle.sound_setup.proofs.Ways.{quote-open}
+use Rattle.sound_setup.proofs.Returns.{quote-open}
 use borrow.Author.Needs.{needs}
 use Rattle.sound_setup.proofs.note_quote.Statement.{statement}
 use Rattle.sound_setup.proofs.note_quote.Tie as tie

@@ -1,7 +1,7 @@
 -- `soundness::are_exposures_sound` meets its contract.
 -- Assumes nothing.
-use Rattle.soundness.proofs.Ways.{first, after}
-use Rattle.sound_setup.proofs.Ways.{passed}
+use Rattle.soundness.proofs.Returns.{first, after}
+use Rattle.sound_setup.proofs.Returns.{passed}
 use borrow.Author.Needs.{needs}
 use Rattle.soundness.proofs.are_exposures_sound.Statement.{statement}
 use Rattle.soundness.proofs.are_exposures_sound.Tie as tie

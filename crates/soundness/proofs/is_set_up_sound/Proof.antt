@@ -1,6 +1,6 @@
 -- `soundness::is_set_up_sound` meets its contract.
 -- Assumes nothing.
-use Rattle.soundness.proofs.Ways.{first, after}
+use Rattle.soundness.proofs.Returns.{first, after}
 use borrow.Author.Needs.{needs}
 use Rattle.soundness.proofs.is_set_up_sound.Statement.{statement}
 use Rattle.soundness.proofs.is_set_up_sound.Tie as tie

@@ -1,6 +1,6 @@
 -- `soundness::is_sound` meets its contract.
 -- Assumes nothing.
-use Rattle.soundness.proofs.Ways.{first, after}
+use Rattle.soundness.proofs.Returns.{first, after}
 use Rattle.rules.specs.Sound.{sound}
 use borrow.Author.Needs.{needs}
 use Rattle.soundness.proofs.is_sound.Statement.{statement}

@@ -1,7 +1,7 @@
 -- `recalls::codes::holds_code` meets its contract.
 -- Assumes nothing.
 use Rattle.marking_laws.proofs.Ranges.{recall-in}
-use Rattle.recalls.proofs.Ways.{no-exposure, other-giver, too-little, enough-held}
+use Rattle.recalls.proofs.Returns.{no-exposure, other-giver, too-little, enough-held}
 use borrow.Author.Needs.{needs}
 use Rattle.recalls.proofs.codes.holds_code.Statement.{statement}
 use Rattle.recalls.proofs.codes.holds_code.Tie as tie

@@ -1,7 +1,7 @@
 -- `recalls::codes::names_code` meets its contract.
 -- Assumes nothing.
 use Rattle.marking_laws.proofs.Ranges.{recall-in}
-use Rattle.recalls.proofs.Ways.{no-lot, part-lot, no-giver, all-known}
+use Rattle.recalls.proofs.Returns.{no-lot, part-lot, no-giver, all-known}
 use borrow.Author.Needs.{needs}
 use Rattle.recalls.proofs.codes.names_code.Statement.{statement}
 use Rattle.recalls.proofs.codes.names_code.Tie as tie

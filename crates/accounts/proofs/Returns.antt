@@ -1,4 +1,4 @@
--- What each way out of the codes and steps of kinds 4 and 5 shows.
+-- What each return of the codes and steps of kinds 4 and 5 shows.
 -- Assumes nothing.
 use mathlib.Core.Path.{_≡_, refl, sym, _∙_}
 use mathlib.Core.Bool.{Bool, true, false, not, cond, and-false}
@@ -7,7 +7,7 @@ use Prim.Native.Nat.{ℕ, _+_, _*_, _≤_, _<_}
 use native.Mathlib.Omega.{arith}
 use lib.ListN.{getD}
 use borrow.Author.Tests.{eq-eqb, ne-eqb, lt-ltb, le-ltb}
-use Rattle.book.specs.Layout.{lots, modes, useds, exposureGivers, accounts, positions}
+use Rattle.book.specs.Layout.{lots, modes, inUse, exposureGivers, accounts, positions}
 use Rattle.book.specs.State.{State}
 use Rattle.rules.specs.Codes.{depositRules, withdrawalRules}
 use Rattle.rules.specs.Outcome.{lowest}
@@ -16,15 +16,15 @@ use Rattle.rules.specs.Stock.{participantSetUp, securitySetUp}
 use Rattle.accounts.specs.Accounts.{accountCode}
 
 -- the positions of a participant's exposures
-module _ (s : State) (p i e : ℕ) {x : ℕ} (u : x ≡ s useds e) where
+module _ (s : State) (p i e : ℕ) {x : ℕ} (u : x ≡ s inUse e) where
   pub not-used : (x ≡ 1 → ⊥) → 0 ≡ positionFrom s p i e
-  not-used n = rw (ne-eqb (s useds e) 1 (rw u at n))
+  not-used n = rw (ne-eqb (s inUse e) 1 (rw u at n))
 
   pub not-giver : {y : ℕ} → y ≡ s exposureGivers e → (y ≡ p → ⊥) → 0 ≡ positionFrom s p i e
   not-giver g n = rw (ne-eqb (s exposureGivers e) p (rw g at n), and-false)
 
   pub from-used : {y z : ℕ} → x ≡ 1 → y ≡ s exposureGivers e → y ≡ p → z ≡ s positions (64 * e + i) → z ≡ positionFrom s p i e
-  from-used o g h q = rw (eq-eqb (s useds e) 1 (omega arith), eq-eqb (s exposureGivers e) p (omega arith)) q
+  from-used o g h q = rw (eq-eqb (s inUse e) 1 (omega arith), eq-eqb (s exposureGivers e) p (omega arith)) q
 
 -- 4 and 5: the participant, then the security
 module _ (s : State) (p i : ℕ) {x : ℕ} (e : x ≡ s modes p) where

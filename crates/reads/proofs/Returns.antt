@@ -1,4 +1,4 @@
--- What each way out of the reads shows.
+-- What each return of the reads shows.
 -- Assumes nothing.
 use mathlib.Core.Path.{_≡_, refl, sym, ap, _∙_}
 use mathlib.Core.Bool.{Bool, true, false, not, _&&_, _||_, cond, and-false, or-true}
@@ -15,7 +15,7 @@ use Rattle.laws.proofs.Cases.{either}
 use Rattle.laws.proofs.Filled.{rules-along}
 use Rattle.laws.proofs.Least.{least-here, least-on, least-end, least-miss}
 use Rattle.baskets.specs.Report.{report}
-use Rattle.book.specs.Layout.{bookLength, rowsOf, lots, modes, maps, ages, numbers, partners, useds, accounts, positions, exposureGivers, exposureTakers, exposureBaskets, exposureClosings, exposures}
+use Rattle.book.specs.Layout.{bookLength, rowsOf, lots, modes, maps, ages, numbers, partners, inUse, accounts, positions, exposureGivers, exposureTakers, exposureBaskets, exposureClosings, exposures}
 use Rattle.book.specs.State.{State, state}
 use Rattle.rules.specs.Outcome.{lowest}
 use Rattle.rules.specs.Reads.{Read, account, position, exposure, request, basket, rowOf, partnerNumber, readRules, readCode, readValues, readAnswer}
@@ -117,7 +117,7 @@ module _ (s : State) (x i : ℕ) where
   pub position-beyond : 64 ≤ i → 4 ≡ lowest (readRules s (position x i))
   position-beyond h = rw (le-leb 64 i h, or-true)
 
-  module _ (h : x < 64) (l : i < 64) {u : ℕ} (e : u ≡ s useds x) where
+  module _ (h : x < 64) (l : i < 64) {u : ℕ} (e : u ≡ s inUse x) where
     pub position-unused : (u ≡ 1 → ⊥) → 5 ≡ lowest (readRules s (position x i))
     position-unused n = rw (lt-leb 64 x h, lt-leb 64 i l, ← e, ne-eqb u 1 n)
 
@@ -132,10 +132,10 @@ module _ (s : State) (x : ℕ) where
   pub exposure-far : 64 ≤ x → 4 ≡ lowest (readRules s (exposure x))
   exposure-far h = rw (le-leb 64 x h)
 
-  pub exposure-unused : {u : ℕ} → x < 64 → u ≡ s useds x → (u ≡ 1 → ⊥) → 5 ≡ lowest (readRules s (exposure x))
+  pub exposure-unused : {u : ℕ} → x < 64 → u ≡ s inUse x → (u ≡ 1 → ⊥) → 5 ≡ lowest (readRules s (exposure x))
   exposure-unused {u} h e n = rw (lt-leb 64 x h, ← e, ne-eqb u 1 n)
 
-  pub exposure-accepted : {u : ℕ} → x < 64 → u ≡ s useds x → u ≡ 1 → 0 ≡ lowest (readRules s (exposure x))
+  pub exposure-accepted : {u : ℕ} → x < 64 → u ≡ s inUse x → u ≡ 1 → 0 ≡ lowest (readRules s (exposure x))
   exposure-accepted h e o = rw (lt-leb 64 x h, sym e ∙ o)
 
   pub basket-far : 16 ≤ x → 4 ≡ lowest (readRules s (basket x))

@@ -1,4 +1,4 @@
--- What each way out of the tests of an exposure shows.
+-- What each return of the tests of an exposure shows.
 -- Assumes nothing.
 use mathlib.Core.Path.{_≡_, refl, sym, _∙_}
 use mathlib.Core.Bool.{Bool, true, false, not, _&&_, and-false}
@@ -10,7 +10,7 @@ use lib.Dec.{eqb, leb}
 use borrow.Author.Tests.{eq-eqb, ne-eqb, not-true, not-false}
 use Rattle.laws.specs.Filled.{filled}
 use Rattle.laws.specs.Search.{all}
-use Rattle.book.specs.Layout.{useds, exposureGivers, exposureTakers, exposureBaskets, exposureClosings, exposures}
+use Rattle.book.specs.Layout.{inUse, exposureGivers, exposureTakers, exposureBaskets, exposureClosings, exposures}
 use Rattle.book.specs.State.{State}
 use Rattle.rules.specs.Sound.{openOrNone, soundParties, basketNamed, alike, blank, soundExposure, otherKey, distinctKey}
 use Rattle.facts.proofs.Rows.{used-exposure, no-exposure, used-or-not}
@@ -22,9 +22,9 @@ pub in-exposures : (n e : ℕ) → n ≤ 5 → e < 64 → InRows n exposureGiver
 unfolding filled
 in-exposures n e h l = in-rows 64 exposureGivers 5 refl (omega arith) n exposureGivers e (omega arith) (omega arith) l
 
-module _ (s : State) (e : ℕ) {u : ℕ} (q : u ≡ s useds e) where
+module _ (s : State) (e : ℕ) {u : ℕ} (q : u ≡ s inUse e) where
   pub unused : {b : Bool} → u ≡ 0 → b ≡ blank s 5 exposureGivers e → b ≡ soundExposure s e
-  unused z h = rw (eq-eqb (s useds e) 0 (sym q ∙ z)) h
+  unused z h = rw (eq-eqb (s inUse e) 0 (sym q ∙ z)) h
 
   -- the tests of a used row
   abbrev used-tests : Bool
@@ -33,10 +33,10 @@ module _ (s : State) (e : ℕ) {u : ℕ} (q : u ≡ s useds e) where
       && (basketNamed s (s exposureBaskets e) && (openOrNone (s exposureClosings e) && leb (s exposures e) 10000000000000))
 
   by-tests : (u ≡ 0 → ⊥) → u ≡ 1 → soundExposure s e ≡ used-tests
-  by-tests z o = rw (ne-eqb (s useds e) 0 (λ p. z (q ∙ p)), eq-eqb (s useds e) 1 (sym q ∙ o))
+  by-tests z o = rw (ne-eqb (s inUse e) 0 (λ p. z (q ∙ p)), eq-eqb (s inUse e) 1 (sym q ∙ o))
 
   pub bad-mark : (u ≡ 0 → ⊥) → (u ≡ 1 → ⊥) → false ≡ soundExposure s e
-  bad-mark z o = rw (ne-eqb (s useds e) 0 (λ p. z (q ∙ p)), ne-eqb (s useds e) 1 (λ p. o (q ∙ p)))
+  bad-mark z o = rw (ne-eqb (s inUse e) 0 (λ p. z (q ∙ p)), ne-eqb (s inUse e) 1 (λ p. o (q ∙ p)))
 
   module _ (z : u ≡ 0 → ⊥) (o : u ≡ 1) {g t : ℕ} (gq : g ≡ s exposureGivers e) (tq : t ≡ s exposureTakers e) {p : Bool} (pq : p ≡ soundParties s g t) where
     parties : p ≡ soundParties s (s exposureGivers e) (s exposureTakers e)
@@ -63,19 +63,19 @@ module _ (s : State) (e : ℕ) {u : ℕ} (q : u ≡ s useds e) where
         by-amount f aq = rw (by-tests z o, sym parties ∙ not-false p pf, sym basket ∙ not-false b bf, sym closing ∙ not-false c f, ← aq)
 
 -- the key of another exposure
-module _ (s : State) (e d : ℕ) {u : ℕ} (q : u ≡ s useds d) where
+module _ (s : State) (e d : ℕ) {u : ℕ} (q : u ≡ s inUse d) where
   pub other-unused : (u ≡ 1 → ⊥) → true ≡ otherKey s e d
-  other-unused o = rw (ne-eqb (s useds d) 1 (λ p. o (q ∙ p)))
+  other-unused o = rw (ne-eqb (s inUse d) 1 (λ p. o (q ∙ p)))
 
   pub by-key : u ≡ 1 → {b : Bool} → b ≡ alike s 4 exposureGivers e d → not b ≡ otherKey s e d
-  by-key o h = rw (eq-eqb (s useds d) 1 (sym q ∙ o), h)
+  by-key o h = rw (eq-eqb (s inUse d) 1 (sym q ∙ o), h)
 
-module _ (s : State) (e : ℕ) {u : ℕ} (q : u ≡ s useds e) where
+module _ (s : State) (e : ℕ) {u : ℕ} (q : u ≡ s inUse e) where
   pub no-key : u ≡ 0 → true ≡ distinctKey s e
-  no-key z = rw (eq-eqb (s useds e) 0 (sym q ∙ z))
+  no-key z = rw (eq-eqb (s inUse e) 0 (sym q ∙ z))
 
   pub keys-of : (u ≡ 0 → ⊥) → all (otherKey s e) (e - 0) 0 ≡ distinctKey s e
-  keys-of z = rw (ne-eqb (s useds e) 0 (λ p. z (q ∙ p)), sub-zero)
+  keys-of z = rw (ne-eqb (s inUse e) 0 (λ p. z (q ∙ p)), sub-zero)
 
 -- the closing day of a sound exposure is open, or none
 pub closing-open : (s : State) (e : ℕ) {d : ℕ} → soundExposure s e ≡ true → d ≡ s exposureClosings e → openOrNone d ≡ true

@@ -9,7 +9,7 @@ use lib.ListN.{length, getD, take, drop}
 use borrow.Author.Tests.{eq-eqb, ne-eqb, lt-ltb, le-ltb}
 use Rattle.laws.proofs.Cases.{either}
 use Rattle.picking.specs.declared.Outcome.{Outcome}
-use Rattle.book.specs.Layout.{bookLength, lots, modes, useds, exposureGivers, positions}
+use Rattle.book.specs.Layout.{bookLength, lots, modes, inUse, exposureGivers, positions}
 use Rattle.book.specs.State.{State, state}
 use Rattle.rules.specs.Codes.{recallRules}
 use Rattle.records.specs.Writing.{areLegal}
@@ -50,10 +50,10 @@ module _ (s : State) (r : List ℕ) {lot : ℕ} (q : lot ≡ s lots (field r 2))
       all-known k = rw (ne-eqb (s lots (field r 2)) 0 (rw q at n), eq-eqb (field r 3 % s lots (field r 2)) 0 (rw q at h), ne-eqb (s modes (field r 0)) 0 (rw m at k))
 
 -- the exposure and what it holds
-module _ (s : State) (r : List ℕ) {used : ℕ} (q : used ≡ s useds (field r 1)) where
+module _ (s : State) (r : List ℕ) {used : ℕ} (q : used ≡ s inUse (field r 1)) where
   pub no-exposure : (used ≡ 1 → ⊥) → 12 ≡ holdsCode s r
   unfolding recallRules
-  no-exposure n = rw (ne-eqb (s useds (field r 1)) 1 (rw q at n))
+  no-exposure n = rw (ne-eqb (s inUse (field r 1)) 1 (rw q at n))
 
   module _ (o : used ≡ 1) {giver : ℕ} (g : giver ≡ s exposureGivers (field r 1)) where
     pub other-giver : (giver ≡ field r 0 → ⊥) → 12 ≡ holdsCode s r
@@ -64,12 +64,12 @@ module _ (s : State) (r : List ℕ) {used : ℕ} (q : used ≡ s useds (field r 
       pub too-little : x < field r 3 → 10 ≡ holdsCode s r
       unfolding recallRules
       too-little l =
-          rw (eq-eqb (s useds (field r 1)) 1 (sym q ∙ o), eq-eqb (s exposureGivers (field r 1)) (field r 0) (sym g ∙ h), lt-ltb (s positions (64 * field r 1 + field r 2)) (field r 3) (rw p at l))
+          rw (eq-eqb (s inUse (field r 1)) 1 (sym q ∙ o), eq-eqb (s exposureGivers (field r 1)) (field r 0) (sym g ∙ h), lt-ltb (s positions (64 * field r 1 + field r 2)) (field r 3) (rw p at l))
 
       pub enough-held : field r 3 ≤ x → 0 ≡ holdsCode s r
       unfolding recallRules
       enough-held l =
-          rw (eq-eqb (s useds (field r 1)) 1 (sym q ∙ o), eq-eqb (s exposureGivers (field r 1)) (field r 0) (sym g ∙ h), le-ltb (s positions (64 * field r 1 + field r 2)) (field r 3) (rw p at l))
+          rw (eq-eqb (s inUse (field r 1)) 1 (sym q ∙ o), eq-eqb (s exposureGivers (field r 1)) (field r 0) (sym g ∙ h), le-ltb (s positions (64 * field r 1 + field r 2)) (field r 3) (rw p at l))
 
 -- the nominal may go back, and then the substitutes may come in
 module _ {book fields : List ℕ} (k : Recalling book fields) (small : (i : ℕ) → getD book i 0 < 256) where

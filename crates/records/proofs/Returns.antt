@@ -1,4 +1,4 @@
--- What each way out of the reader and of the writer shows.
+-- What each return of the reader and of the writer shows.
 -- Assumes nothing.
 use mathlib.Core.Path.{_≡_, sym, ap, _∙_}
 use mathlib.Core.Bool.{Bool, true, false, not, or-true}

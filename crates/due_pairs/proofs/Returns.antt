@@ -1,4 +1,4 @@
--- What each way out of the tests of a due row shows.
+-- What each return of the tests of a due row shows.
 -- Assumes nothing.
 use mathlib.Core.Path.{_≡_, refl, sym, ap, _∙_}
 use mathlib.Core.Bool.{Bool, true, false, _&&_, and-false}
@@ -8,7 +8,7 @@ use native.Mathlib.Omega.{arith}
 use lib.Dec.{eqb, leb, ltb}
 use borrow.Author.Tests.{eq-eqb, ne-eqb, eqb-false, le-leb, lt-leb, lt-ltb, le-ltb, not-true}
 use Rattle.laws.proofs.Cases.{either, and-left}
-use Rattle.book.specs.Layout.{today, numbers, kinds, amounts, settlements, settleds, partners, ends}
+use Rattle.book.specs.Layout.{today, numbers, kinds, amounts, settlements, settledAmounts, partners, ends}
 use Rattle.book.specs.State.{State}
 use Rattle.rules.specs.Requests.{isUsed, isPaired, isLive, partnerOf}
 use Rattle.rules.specs.Settlement.{orderOf, isDue}
@@ -36,10 +36,10 @@ module _ (s : State) (i : ℕ) {n : ℕ} (nq : n ≡ s numbers i) where
       unfolding duePair
       has-ended h = rw (ne-eqb (s ends i) 0 (λ z. h (eq ∙ z)), and-false)
 
-      module _ (ez : e ≡ 0) {a x : ℕ} (aq : a ≡ s amounts i) (xq : x ≡ s settleds i) where
+      module _ (ez : e ≡ 0) {a x : ℕ} (aq : a ≡ s amounts i) (xq : x ≡ s settledAmounts i) where
         pub is-whole : a ≤ x → false ≡ duePair s i
         unfolding duePair
-        is-whole h = rw (le-leb (s amounts i) (s settleds i) (rw (aq, xq) at h), and-false, and-false)
+        is-whole h = rw (le-leb (s amounts i) (s settledAmounts i) (rw (aq, xq) at h), and-false, and-false)
 
         module _ (l : x < a) {m : ℕ} (mq : m ≡ s numbers (p - 1)) where
           partner : m ≡ s numbers (partnerOf s i)
@@ -54,7 +54,7 @@ module _ (s : State) (i : ℕ) {n : ℕ} (nq : n ≡ s numbers i) where
           by-day h dq tq = rw (
             ne-eqb (s numbers i) 0 (λ z. nz (nq ∙ z)),
             eq-eqb (s ends i) 0 (sym eq ∙ ez),
-            lt-leb (s amounts i) (s settleds i) (rw (aq, xq) at l),
+            lt-leb (s amounts i) (s settledAmounts i) (rw (aq, xq) at l),
             ne-eqb (s partners i) 0 (λ z. pz (pq ∙ z)),
             lt-ltb (s numbers (partnerOf s i)) (s numbers i) (rw (nq, partner) at h),
             dq,

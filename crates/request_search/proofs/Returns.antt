@@ -1,4 +1,4 @@
--- What each way out of the searches shows.
+-- What each return of the searches shows.
 -- Assumes nothing.
 use mathlib.Core.Path.{_≡_, sym, _∙_}
 use mathlib.Core.Bool.{Bool, true, false, not, _&&_, and-false, and-true, or-false}
@@ -11,7 +11,7 @@ use lib.ListN.{getD}
 use borrow.Author.Tests.{eq-eqb, ne-eqb, le-leb, lt-leb, lt-ltb, le-ltb, not-true, not-false}
 use Rattle.laws.specs.Bits.{hasBit}
 use Rattle.laws.specs.Search.{leastBy}
-use Rattle.book.specs.Layout.{modes, lists, numbers, kinds, sides, givers, takers, objects, amounts, settlements, closings, settleds, partners, ends}
+use Rattle.book.specs.Layout.{modes, lists, numbers, kinds, sides, givers, takers, objects, amounts, settlements, closings, settledAmounts, partners, ends}
 use Rattle.book.specs.State.{State}
 use Rattle.rules.specs.Requests.{isLive, isPaired, isOwner, acceptsGiver}
 use Rattle.rules.specs.Requesting.{closingIn, takerFollows, isEqual}
@@ -122,7 +122,7 @@ module _ (s : State) (i : ℕ) {n : ℕ} (nq : n ≡ s numbers i) where
       pub ended-already : (e ≡ 0 → ⊥) → false ≡ (isLive s i && not (isPaired s i))
       ended-already h = rw (← eq, ne-eqb e 0 h, and-false)
 
-      pub by-rest : {d a : ℕ} → e ≡ 0 → d ≡ s settleds i → a ≡ s amounts i → ltb d a ≡ (isLive s i && not (isPaired s i))
+      pub by-rest : {d a : ℕ} → e ≡ 0 → d ≡ s settledAmounts i → a ≡ s amounts i → ltb d a ≡ (isLive s i && not (isPaired s i))
       by-rest {d} {a} h dq aq =
           rw (← nq, ne-eqb n 0 nh, ← pq, eq-eqb p 0 ph, ← eq, eq-eqb e 0 h, ← dq, ← aq, and-true) (not-leb a d)
 
@@ -167,7 +167,7 @@ module _ (s : State) (i : ℕ) {e : ℕ} (eq : e ≡ s ends i) where
   pub not-ended : e ≡ 0 → true ≡ openOrWhole s i
   not-ended h = rw (← eq, eq-eqb e 0 h)
 
-  pub by-whole : {a d : ℕ} → (e ≡ 0 → ⊥) → a ≡ s amounts i → d ≡ s settleds i → leb a d ≡ openOrWhole s i
+  pub by-whole : {a d : ℕ} → (e ≡ 0 → ⊥) → a ≡ s amounts i → d ≡ s settledAmounts i → leb a d ≡ openOrWhole s i
   by-whole h aq dq = rw (← eq, ne-eqb e 0 h, ← aq, ← dq)
 
 -- the owner

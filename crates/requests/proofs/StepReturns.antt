@@ -1,4 +1,4 @@
--- What each way out of the steps of kinds 6 to 8 shows.
+-- What each return of the steps of kinds 6 to 8 shows.
 -- Assumes nothing.
 use mathlib.Core.Path.{_≡_, refl, sym, _∙_}
 use mathlib.Core.Bool.{Bool, true, false, and-false, or-true}

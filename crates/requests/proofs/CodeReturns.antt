@@ -1,4 +1,4 @@
--- What each way out of the codes of kinds 6 to 8 shows.
+-- What each return of the codes of kinds 6 to 8 shows.
 -- Assumes nothing.
 use mathlib.Core.Path.{_≡_, refl, sym, _∙_}
 use mathlib.Core.Bool.{Bool, true, false, not}
@@ -6,7 +6,7 @@ use mathlib.Core.List.{List, _∷_, _++_}
 use Prim.Native.Nat.{ℕ, _≤_, _<_}
 use lib.ListN.{getD}
 use borrow.Author.Tests.{eq-eqb, ne-eqb, lt-ltb, le-ltb, not-true, not-false}
-use Rattle.book.specs.Layout.{tolerance, modes, settleds}
+use Rattle.book.specs.Layout.{tolerance, modes, settledAmounts}
 use Rattle.book.specs.State.{State}
 use Rattle.rules.specs.Codes.{fopRules, returnRules, cancelRules}
 use Rattle.rules.specs.Outcome.{Rule, rule, lowest}
@@ -95,7 +95,7 @@ module _ (s : State) (r : List ℕ) {m : ℕ} (mq : m ≡ s modes (getD r 0 0)) 
     unfolding cancelRules
     cancel-none h = rw (← mq, ne-eqb m 0 known, ← iq, eq-eqb i 256 h)
 
-    module _ (some : i ≡ 256 → ⊥) {d : ℕ} (dq : d ≡ s settleds i) where
+    module _ (some : i ≡ 256 → ⊥) {d : ℕ} (dq : d ≡ s settledAmounts i) where
       pub cancel-settled : (d ≡ 0 → ⊥) → 13 ≡ lowest (cancelRules s r)
       unfolding cancelRules
       cancel-settled h = rw (← mq, ne-eqb m 0 known, ← iq, ne-eqb i 256 some, ← dq, ne-eqb d 0 h)

@@ -11,7 +11,7 @@ use lib.Dec.{eqb, ltb}
 use borrow.Author.Tests.{eqb-true, eqb-false, eq-eqb, ne-eqb, not-true, not-false, ltb-true}
 use Rattle.laws.specs.Search.{count}
 use Rattle.laws.proofs.Cases.{either, clash}
-use Rattle.book.specs.Layout.{nextNumber, numbers, kinds, sides, givers, takers, objects, amounts, settlements, closings, settleds, partners, pairPartials, cancels, ends}
+use Rattle.book.specs.Layout.{nextNumber, numbers, kinds, sides, givers, takers, objects, amounts, settlements, closings, settledAmounts, partners, pairPartials, cancels, ends}
 use Rattle.book.specs.State.{State, put}
 use Rattle.book.proofs.Images.{put-apart}
 use Rattle.rules.specs.Requests.{isUsed, isPaired, isWhole, isLive, allowPartial, freeRow}
@@ -70,7 +70,7 @@ module _ (s : State) (good : Good s) where
 
   free-unmarked : {i : ℕ} → Free s i → Unmarked s i
   free-unmarked free = record {
-    settled = free-blank free settleds (omega arith) (omega arith);
+    settled = free-blank free settledAmounts (omega arith) (omega arith);
     cancel = free-blank free cancels (omega arith) (omega arith);
     end = free-blank free ends (omega arith) (omega arith);
   }

@@ -1,4 +1,4 @@
--- What each way out of the codes and steps of kinds 0 to 3 shows.
+-- What each return of the codes and steps of kinds 0 to 3 shows.
 -- Assumes nothing.
 use mathlib.Core.Path.{_≡_, sym, _∙_}
 use mathlib.Core.Bool.{Bool, true, false, not, _&&_, and-false}

@@ -1,4 +1,4 @@
--- What each way out of the tests of a request row's pair shows.
+-- What each return of the tests of a request row's pair shows.
 -- Assumes nothing.
 use mathlib.Core.Path.{_≡_, refl, sym, ap, _∙_}
 use mathlib.Core.Bool.{Bool, true, false, not, _||_, and-false}
@@ -7,7 +7,7 @@ use native.Mathlib.Nat.{zero-add}
 use native.Mathlib.Omega.{arith}
 use lib.Dec.{eqb, ltb}
 use borrow.Author.Tests.{eq-eqb, ne-eqb, lt-ltb, le-ltb, not-true, not-false}
-use Rattle.book.specs.Layout.{kinds, sides, givers, settleds, partners, pairPartials, ends}
+use Rattle.book.specs.Layout.{kinds, sides, givers, settledAmounts, partners, pairPartials, ends}
 use Rattle.book.specs.State.{State}
 use Rattle.rules.specs.Requests.{isReturn, exposureWith, exposureOfFop, partnerOf}
 use Rattle.rules.specs.Sound.{alike, marksAlike, soundPair, soundPaired}
@@ -67,7 +67,7 @@ module _ (s : State) (q : declared.Request) (r : Reads s q) where
                 rw (lt-ltb j 256 near, ← pq, eq-eqb p (q .row + 1) match, sym sides-are ∙ not-false v opposite, ← r .kind, ← lq, eq-eqb (q .kind) l kind, sym aq ∙ not-false a h) mq
 
     -- their marks
-    module _ {b : ℕ} (bq : b ≡ s settleds j) where
+    module _ {b : ℕ} (bq : b ≡ s settledAmounts j) where
       pub other-settled : (q .settled ≡ b → ⊥) → false ≡ marksAlike s (q .row) j
       other-settled h = rw (← r .settled, ← bq, ne-eqb (q .settled) b h)
 

@@ -1,15 +1,15 @@
--- `day_exposures::row_place` meets its contract.
+-- `day_exposures::row_slot` meets its contract.
 -- Assumes nothing.
-use Rattle.day_exposures.proofs.Marks.{unused-placed, unnamed-placed, named-placed, fop-placed}
+use Rattle.day_exposures.proofs.Marks.{unused-slot, unnamed-slot, named-slot, fop-slot}
 use borrow.Author.Needs.{needs}
-use Rattle.day_exposures.proofs.row_place.Statement.{statement}
-use Rattle.day_exposures.proofs.row_place.Tie as tie
+use Rattle.day_exposures.proofs.row_slot.Statement.{statement}
+use Rattle.day_exposures.proofs.row_slot.Tie as tie
 
 get-requires : tie.Need-get-requires
 get-requires c κs = search needs
 
 returns : tie.Need-returns
-returns c = search unused-placed
+returns c = search unused-slot
 
 get-requires-2 : tie.Need-get-requires-2
 get-requires-2 c κs = search needs
@@ -18,13 +18,13 @@ get-requires-3 : tie.Need-get-requires-3
 get-requires-3 c κs = search needs
 
 returns-2 : tie.Need-returns-2
-returns-2 c = search unnamed-placed
+returns-2 c = search unnamed-slot
 
-place-of-requires : tie.Need-place-of-requires
-place-of-requires c κs = search needs
+slot-of-requires : tie.Need-slot-of-requires
+slot-of-requires c κs = search needs
 
 returns-3 : tie.Need-returns-3
-returns-3 c = search named-placed
+returns-3 c = search named-slot
 
 get-requires-4 : tie.Need-get-requires-4
 get-requires-4 c κs = search needs
@@ -35,14 +35,14 @@ get-requires-5 c κs = search needs
 get-requires-6 : tie.Need-get-requires-6
 get-requires-6 c κs = search needs
 
-key-place-requires : tie.Need-key-place-requires
-key-place-requires c κs = search needs
+key-slot-requires : tie.Need-key-slot-requires
+key-slot-requires c κs = search needs
 
 returns-4 : tie.Need-returns-4
-returns-4 c = search fop-placed
+returns-4 c = search fop-slot
 
-pub row-place-spec : {M : Type 1} → statement M
-row-place-spec =
+pub row-slot-spec : {M : Type 1} → statement M
+row-slot-spec =
     tie.close
     (tie.spec
     get-requires
@@ -50,10 +50,10 @@ row-place-spec =
     get-requires-2
     get-requires-3
     returns-2
-    place-of-requires
+    slot-of-requires
     returns-3
     get-requires-4
     get-requires-5
     get-requires-6
-    key-place-requires
+    key-slot-requires
     returns-4)

@@ -1,4 +1,4 @@
--- What each way out of the exported call shows.
+-- What each return of the exported call shows.
 -- Assumes nothing.
 use mathlib.Core.Path.{_≡_, refl, sym, ap, _∙_}
 use mathlib.Core.Bool.{Bool, true, false, not, _&&_, cond, and-false}

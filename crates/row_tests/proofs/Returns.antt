@@ -1,4 +1,4 @@
--- What each way out of the tests of rows shows.
+-- What each return of the tests of rows shows.
 -- Assumes nothing.
 use mathlib.Core.Path.{_≡_}
 use mathlib.Core.Bool.{Bool}

@@ -9,7 +9,7 @@ use lib.Dec.{eqb, ltb}
 use lib.ListN.{getD}
 use borrow.Author.Tests.{eqb-false, ne-eqb, ltb-false}
 use Rattle.laws.proofs.Cases.{clash, or-left, or-right}
-use Rattle.book.specs.Layout.{nextNumber, numbers, partners, useds}
+use Rattle.book.specs.Layout.{nextNumber, numbers, partners, inUse}
 use Rattle.book.specs.State.{State, put}
 use Rattle.facts.proofs.Facts.{sound-facts}
 use Rattle.facts.proofs.Rows.{used-fields, used-paired}
@@ -65,7 +65,7 @@ module _ (s : State) where
 
   -- 15 does not apply: where an exposure row is needed, one is free
   exposure-there : (t : Bool) → (t && eqb (freeExposure s) 64) ≡ false → t ≡ true → freeExposure s < 64
-  exposure-there true h e = let n = eqb-false (freeExposure s) 64 h in omega (arith, least-le (λ e. eqb (s useds e) 0) 64 0)
+  exposure-there true h e = let n = eqb-false (freeExposure s) 64 h in omega (arith, least-le (λ e. eqb (s inUse e) 0) 64 0)
   exposure-there false h e = clash e refl
 
   pub fop-room : (r : List ℕ) → lowest (fopRules s r) ≡ 0 → Room s 6 r

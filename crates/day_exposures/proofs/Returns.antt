@@ -1,4 +1,4 @@
--- What each way out of the tests of an exposure shows.
+-- What each return of the tests of an exposure shows.
 -- Assumes nothing.
 use mathlib.Core.Path.{_≡_, sym, _∙_}
 use mathlib.Core.Bool.{Bool, true, false, and-false}
@@ -6,15 +6,15 @@ use Prim.Native.Nat.{ℕ}
 use lib.Dec.{eqb}
 use borrow.Author.Tests.{eq-eqb, ne-eqb}
 use Rattle.laws.specs.Search.{all}
-use Rattle.book.specs.Layout.{numbers, kinds, givers, takers, objects, closings, partners, useds, exposureClosings, exposures}
+use Rattle.book.specs.Layout.{numbers, kinds, givers, takers, objects, closings, partners, inUse, exposureClosings, exposures}
 use Rattle.book.specs.State.{State}
 use Rattle.rules.specs.DayChange.{isReached, isExposureClosed, belongs, isIdle}
 use Rattle.rules.specs.Requests.{hasKey}
-use Rattle.day_rows.proofs.Ways.{or-none}
+use Rattle.day_rows.proofs.Returns.{or-none}
 use Rattle.day_exposures.specs.Parts.{isNotOf}
 
 -- an exposure whose closing date is reached
-module _ (s : State) (day e : ℕ) {u : ℕ} (uq : u ≡ s useds e) where
+module _ (s : State) (day e : ℕ) {u : ℕ} (uq : u ≡ s inUse e) where
   pub not-used : (u ≡ 1 → ⊥) → false ≡ isExposureClosed s day e
   not-used n = rw (← uq, ne-eqb u 1 n)
 
@@ -41,7 +41,7 @@ module _ (s : State) (e i : ℕ) {n : ℕ} (nq : n ≡ s numbers i) where
       by-pair m gq tq oq cq bq = rw (← nq, ne-eqb n 0 used, ← kq, fop, ← pq, ne-eqb p 0 m, ← gq, ← tq, ← oq, ← cq) bq
 
 -- an exposure that is idle
-module _ (s : State) (e : ℕ) {u : ℕ} (uq : u ≡ s useds e) where
+module _ (s : State) (e : ℕ) {u : ℕ} (uq : u ≡ s inUse e) where
   pub idle-unused : (u ≡ 1 → ⊥) → false ≡ isIdle s e
   idle-unused n = rw (← uq, ne-eqb u 1 n)
 
@@ -50,4 +50,4 @@ module _ (s : State) (e : ℕ) {u : ℕ} (uq : u ≡ s useds e) where
     idle-amount n = rw (← aq, ne-eqb a 0 n, and-false)
 
     pub by-rows : {b : Bool} → a ≡ 0 → b ≡ all (isNotOf s e) 256 0 → b ≡ isIdle s e
-    by-rows {b} z bq = rw (← bq, eq-eqb (s useds e) 1 (sym uq ∙ used), sym aq ∙ z)
+    by-rows {b} z bq = rw (← bq, eq-eqb (s inUse e) 1 (sym uq ∙ used), sym aq ∙ z)

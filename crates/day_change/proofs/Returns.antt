@@ -1,4 +1,4 @@
--- What each way out of the code shows: there may be no next day.
+-- What each return of the code shows: there may be no next day.
 -- Assumes nothing.
 use mathlib.Core.Path.{_≡_}
 use Prim.Native.Nat.{ℕ, _≤_, _<_}

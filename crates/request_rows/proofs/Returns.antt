@@ -1,4 +1,4 @@
--- What each way out of the functions that write a row shows.
+-- What each return of the functions that write a row shows.
 -- Assumes nothing.
 use mathlib.Core.Path.{_≡_}
 use mathlib.Core.Bool.{and-false}

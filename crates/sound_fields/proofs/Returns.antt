@@ -1,4 +1,4 @@
--- What each way out of the tests of a request row's fields shows.
+-- What each return of the tests of a request row's fields shows.
 -- Assumes nothing.
 use mathlib.Core.Path.{_≡_, sym, _∙_}
 use mathlib.Core.Bool.{Bool, true, false, not, and-false, or-false}
@@ -6,7 +6,7 @@ use Prim.Native.Nat.{ℕ, _≤_, _<_}
 use lib.Dec.{eqb, leb}
 use borrow.Author.Tests.{eq-eqb, ne-eqb, le-leb, lt-leb, lt-ltb, le-ltb, not-true, not-false}
 use Rattle.calendar.specs.Target.{openDay}
-use Rattle.book.specs.Layout.{nextNumber, tolerance, kinds, givers, takers, objects, amounts, settlements, useds, exposureGivers, exposureTakers}
+use Rattle.book.specs.Layout.{nextNumber, tolerance, kinds, givers, takers, objects, amounts, settlements, inUse, exposureGivers, exposureTakers}
 use Rattle.book.specs.State.{State}
 use Rattle.rules.specs.Sound.{between, openOrNone, soundParties, basketNamed, returnNames, soundFop, soundReturn, soundKind, soundFields}
 use Rattle.sound_fields.specs.Rows.{Reads, marksOf}
@@ -33,9 +33,9 @@ module _ (s : State) (q : declared.Request) (r : Reads s q) where
   pub names-none : 64 ≤ q .object → false ≡ returnNames s (q .row)
   names-none h = rw (← r .object, le-ltb (q .object) 64 h)
 
-  module _ (near : q .object < 64) {u : ℕ} (uq : u ≡ s useds (q .object)) where
+  module _ (near : q .object < 64) {u : ℕ} (uq : u ≡ s inUse (q .object)) where
     pub names-unused : (u ≡ 1 → ⊥) → false ≡ returnNames s (q .row)
-    names-unused h = rw (← r .object, ne-eqb (s useds (q .object)) 1 (λ m. h (uq ∙ m)), and-false)
+    names-unused h = rw (← r .object, ne-eqb (s inUse (q .object)) 1 (λ m. h (uq ∙ m)), and-false)
 
     module _ (used : u ≡ 1) {eg : ℕ} (egq : eg ≡ s exposureGivers (q .object)) where
       pub names-other : (eg ≡ q .giver → ⊥) → false ≡ returnNames s (q .row)

@@ -1,4 +1,4 @@
--- What each way out of entering a request shows.
+-- What each return of entering a request shows.
 -- Assumes nothing.
 use mathlib.Core.Path.{_≡_}
 use mathlib.Core.Bool.{true, and-false}

@@ -1,11 +1,11 @@
--- What each way out of the tests of a request row shows.
+-- What each return of the tests of a request row shows.
 -- Assumes nothing.
 use mathlib.Core.Path.{_≡_, refl, sym, _∙_}
 use mathlib.Core.Bool.{Bool, true, false, _||_}
 use Prim.Native.Nat.{ℕ, _≤_, _<_}
 use lib.Dec.{leb}
 use borrow.Author.Tests.{eq-eqb, ne-eqb, le-leb, lt-leb}
-use Rattle.book.specs.Layout.{today, numbers, kinds, objects, amounts, settlements, closings, settleds, partners, ends, exposureClosings}
+use Rattle.book.specs.Layout.{today, numbers, kinds, objects, amounts, settlements, closings, settledAmounts, partners, ends, exposureClosings}
 use Rattle.book.specs.State.{State}
 use Rattle.rules.specs.DayChange.{isReached, isDone, isClosed, isDropped}
 
@@ -23,7 +23,7 @@ module _ (day closing : ℕ) where
   by-day n = rw (ne-eqb closing 0 n)
 
 -- a row that is done
-module _ (s : State) (i : ℕ) {a d : ℕ} (aq : a ≡ s amounts i) (dq : d ≡ s settleds i) where
+module _ (s : State) (i : ℕ) {a d : ℕ} (aq : a ≡ s amounts i) (dq : d ≡ s settledAmounts i) where
   pub done-whole : a ≤ d → true ≡ isDone s i
   done-whole h = rw (← aq, ← dq, le-leb a d h)
 

@@ -1,4 +1,4 @@
--- What each way out of the groups of rules shows.
+-- What each return of the groups of rules shows.
 -- Assumes nothing.
 use mathlib.Core.Path.{_≡_, refl, sym, _∙_}
 use mathlib.Core.Bool.{Bool, true, false, not, and-false}
@@ -9,7 +9,7 @@ use lib.Dec.{eqb, ltb}
 use lib.ListN.{getD}
 use borrow.Author.Tests.{eq-eqb, ne-eqb, le-leb, lt-leb, lt-ltb, le-ltb, not-true, not-false}
 use Rattle.calendar.specs.Target.{openDay}
-use Rattle.book.specs.Layout.{today, nextNumber, modes, maps, useds, exposureGivers, exposureTakers}
+use Rattle.book.specs.Layout.{today, nextNumber, modes, maps, inUse, exposureGivers, exposureTakers}
 use Rattle.book.specs.State.{State}
 use Rattle.rules.specs.Outcome.{Rule, lowest}
 use Rattle.rules.specs.Requests.{acceptsGiver, exposureWith, freeExposure}
@@ -146,7 +146,7 @@ module _ (s : State) (r : List ℕ) {p : ℕ} (pq : p ≡ lowest (partyRules s r
       name-closing dz cq = after-basket (goes-on (settlementRules s r) (closingRules r) refl dq dz cq)
 
 -- 12: the exposure that a return names
-module _ (s : State) (r : List ℕ) {u : ℕ} (uq : u ≡ s useds (getD r 3 0)) where
+module _ (s : State) (r : List ℕ) {u : ℕ} (uq : u ≡ s inUse (getD r 3 0)) where
   pub names-unused : (u ≡ 1 → ⊥) → false ≡ namesExposure s r
   names-unused h = rw (← uq, ne-eqb u 1 h)
 
