@@ -4,7 +4,7 @@
 use crate::desk::{Desk, SecondDesk};
 use crate::image::{
     ACCOUNTS, EXPOSURE_AMOUNTS, EXPOSURE_BASKETS, EXPOSURE_CLOSINGS, EXPOSURE_GIVERS,
-    EXPOSURE_TAKERS, POSITIONS, IN_USE,
+    EXPOSURE_TAKERS, IN_USE, POSITIONS,
 };
 use crate::lists::{Call, List};
 use crate::second::book::{Book, Key, Nominals, BASKETS, EXPOSURES, PARTICIPANTS, SECURITIES};

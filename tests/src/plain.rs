@@ -54,7 +54,12 @@ fn open(day: u64) -> bool {
     let leap = start_of(k + 1) - start - 365;
     let n = day - start + 1;
     let easter = u64::from(EASTER[k as usize]);
-    !(n == 1 || n + 2 == easter || n == easter + 1 || n == 121 + leap || n == 359 + leap || n == 360 + leap)
+    !(n == 1
+        || n + 2 == easter
+        || n == easter + 1
+        || n == 121 + leap
+        || n == 359 + leap
+        || n == 360 + leap)
 }
 
 pub fn is_open(day: u64) -> Answer {
@@ -85,7 +90,8 @@ pub fn price_age(quote: u64, today: u64) -> Answer {
 #[inline]
 fn fresh(quote: u64, today: u64, oldest: u64) -> bool {
     today - quote <= oldest
-        || (quote + 1..=today).filter(|&d| open(d)).take(oldest as usize + 1).count() as u64 <= oldest
+        || (quote + 1..=today).filter(|&d| open(d)).take(oldest as usize + 1).count() as u64
+            <= oldest
 }
 
 // The valuation. The greatest product, 500,000,000 × 3,000,000 × 10,000, is below 2^64.

@@ -29,11 +29,10 @@ fn run(input: &[u8]) -> Vec<String> {
 /// What the program writes. The input is handed over in parts of a size, so that reads end within records.
 fn output_of_program(input: &[u8], part: usize) -> Vec<u8> {
     let path = Path::new(env!("CARGO_MANIFEST_DIR")).join("../target/bin/desk");
-    let mut program = Command::new(&path)
-        .stdin(Stdio::piped())
-        .stdout(Stdio::piped())
-        .spawn()
-        .unwrap_or_else(|error| panic!("{}: {error}: run `rt check desk` in the root", path.display()));
+    let mut program =
+        Command::new(&path).stdin(Stdio::piped()).stdout(Stdio::piped()).spawn().unwrap_or_else(
+            |error| panic!("{}: {error}: run `rt check desk` in the root", path.display()),
+        );
     let mut stdin = program.stdin.take().expect("a pipe");
     let input = input.to_vec();
     let writer = thread::spawn(move || {
@@ -262,7 +261,9 @@ fn the_program_answers_longer_inputs_alike() {
             }
         }
         let cut = random.below(input.len() as u64 + 1) as usize;
-        count += run_program(&input, 1 << 20) + run_program(&input[cut..], 999) + run_program(&input[..cut], 1 << 20);
+        count += run_program(&input, 1 << 20)
+            + run_program(&input[cut..], 999)
+            + run_program(&input[..cut], 1 << 20);
     }
     assert!(count > 3_000, "{count} lines");
 }
