@@ -38,7 +38,7 @@ enum table_of_book {
     PAIR_PARTIALS,
     CANCELS,
     ENDS,
-    IN_USE,
+    EXPOSURE_IN_USE,
     EXPOSURE_GIVERS,
     EXPOSURE_TAKERS,
     EXPOSURE_BASKETS,
