@@ -1,12 +1,11 @@
 // The desk's program (document 01, "The program's lines"): reads standard input piece by piece and writes what the crate `lines`
-// makes of it. What a record's call leaves and what its line says are promises of that crate.
+// makes of it. What a record's call leaves and what its line says are promises of that crate and of `line_text`.
 // Proved here: the program is safe and ends, stays within its buffers, and serves each piece whole, one batch after the other. What
 // is read and written no contract can say: that is tested, on stdin and stdout beside src/ and by tests/tests/lines.rs.
 ghost use mathlib.Core.Path.{_≡_};
 ghost use Prim.Native.Nat.{_+_, _≤_, _<_};
 ghost use lib.ListN.{length, take, drop};
 ghost use Rattle.lines.specs.Lines.{servedAll};
-use answers::MALFORMED;
 use libc::STDIN_FILENO;
 use libc::STDOUT_FILENO;
 
@@ -125,7 +124,7 @@ fn serve_some(book: &mut [u8], input: &mut [u8], text: &mut [u8], s: Session) ->
     }
 }
 
-// Serves the whole input. What is then held begins with a cut or unknown record, whose line is the last.
+// Serves the whole input. Where anything is then held, it begins with a cut or unknown record, whose line is the last.
 fn serve(book: &mut [u8], input: &mut [u8], text: &mut [u8])
     requires { ⌜ (length (now input) ≤ 65536) × (126 ≤ length (now text)) ⌝ }
 {
@@ -139,10 +138,9 @@ fn serve(book: &mut [u8], input: &mut [u8], text: &mut [u8])
         s = serve_some(book, input, text, s);
         reads -= 1;
     }
-    if s.held > 0 {
-        let end = line_text::put_line(text, 0, s.place + 1, input[0], &[MALFORMED, 0, 0, 0]);
-        write_text(text, end);
-    }
+    let held = s.held;
+    let end = line_text::put_last(text, s.place + 1, &input[..held]);
+    write_text(text, end);
 }
 
 fn main() {

@@ -11,7 +11,7 @@ use lib.Seq.{set-split, append-snoc, length-take-le, take-suc}
 use Rattle.io.specs.Digits.{digits, Fewest}
 use Rattle.rules.specs.Outcome.{Answer}
 use Rattle.laws.proofs.Patches.{patch-next, patch-length}
-use Rattle.line_text.specs.Text.{numeral, word, lineOf, put}
+use Rattle.line_text.specs.Text.{numeral, word, lineOf, lastLine, answerOf, put}
 use Rattle.line_text.proofs.Numerals.{decimal-numeral}
 
 -- one text behind the other
@@ -104,3 +104,16 @@ line-put l m₁ m₂ m₃ m₄ m₅ m₆ at a₁ a₂ a₃ a₄ a₅ a₆ place 
     let t₅ = put-then l p₄ (word (x .b) 32) m₄ m₅ at a₄ a₅ (t₄ .0) (t₄ .1) (s₅ .0) (s₅ .2) (omega (arith, s₁ .1, s₂ .1, s₃ .1, s₄ .1)) in
     let t₆ = put-then l p₅ (word (x .m) 10) m₅ m₆ at a₅ a₆ (t₅ .0) (t₅ .1) (s₆ .0) (s₆ .2) (omega (arith, s₁ .1, s₂ .1, s₃ .1, s₄ .1, s₅ .1)) in
     (t₆ .0, omega (arith, s₁ .1, s₂ .1, s₃ .1, s₄ .1, s₅ .1, s₆ .1), t₆ .1)
+
+-- what is left of the input: nothing is put where nothing is left, else the line of its first byte
+pub none-left : (l : List ℕ) (place : ℕ) (rest : List ℕ) → length rest ≡ 0 → (0 ≡ length (lastLine place rest)) × (0 ≤ length l) × (l ≡ put l 0 (lastLine place rest))
+unfolding lastLine
+none-left l place [] e = (refl, omega arith, put-none l 0)
+none-left l place (kind ∷ rest) e = absurd (omega arith)
+
+pub last-put : (l m : List ℕ) (place r : ℕ) (rest : List ℕ) → (length rest ≡ 0 → ⊥) → 126 ≤ length l
+    → (r ≡ 0 + length (lineOf place (getD rest 0 0) (answerOf (3 ∷ 0 ∷ 0 ∷ 0 ∷ [])))) × (r ≤ 0 + 126) × (m ≡ put l 0 (lineOf place (getD rest 0 0) (answerOf (3 ∷ 0 ∷ 0 ∷ 0 ∷ []))))
+    → (r ≡ length (lastLine place rest)) × (r ≤ length l) × (m ≡ put l 0 (lastLine place rest))
+unfolding lastLine
+last-put l m place r [] e room p = absurd (e refl)
+last-put l m place r (kind ∷ rest) e room p = (omega (arith, p .0), omega (arith, p .1), p .2)

@@ -24,6 +24,11 @@ word n after = numeral n ++ (after ∷ [])
 unfoldable pub lineOf : ℕ → ℕ → Answer → List ℕ
 lineOf place kind a = word place 32 ++ word kind 32 ++ word (a .code) 32 ++ word (a .a) 32 ++ word (a .b) 32 ++ word (a .m) 10
 
+-- "A cut or unknown record prints code 3 and ends it": the line of what is left of the input behind its whole records, none where nothing is
+unfoldable pub lastLine : ℕ → List ℕ → List ℕ
+lastLine place [] = []
+lastLine place (kind ∷ rest) = lineOf place kind (answer 3 0 0 0)
+
 -- the answer in a lent array of four numbers
 abbrev pub answerOf : List ℕ → Answer
 answerOf l = answer (getD l 0 0) (getD l 1 0) (getD l 2 0) (getD l 3 0)

@@ -2,7 +2,8 @@
 ghost use mathlib.Core.Path.{_≡_};
 ghost use Prim.Native.Nat.{_+_, _≤_};
 ghost use lib.ListN.{length, take};
-ghost use Rattle.line_text.specs.Text.{word, lineOf, answerOf, put};
+ghost use Rattle.line_text.specs.Text.{word, lineOf, lastLine, answerOf, put};
+use answers::MALFORMED;
 
 // Puts the first `count` digits; answers where the next byte goes.
 fn put_digits(lines: &mut [u8], at: usize, digits: [u8; 20], count: usize) -> usize
@@ -46,4 +47,16 @@ pub fn put_line(lines: &mut [u8], at: usize, place: u64, kind: u8, answer: &[u64
     let d = put_number(lines, c, answer[1], b' ');
     let e = put_number(lines, d, answer[2], b' ');
     put_number(lines, e, answer[3], b'\n')
+}
+
+// Puts the line of what is left of the input behind its whole records, which begins with a cut or unknown one; nothing where nothing
+// is left. Answers how many bytes are put.
+pub fn put_last(lines: &mut [u8], place: u64, rest: &[u8]) -> usize
+    requires { ⌜ 126 ≤ length (now lines) ⌝ }
+    ensures { λ r. ⌜ (r ≡ length (lastLine place (now (rest .entry)))) × (r ≤ length (now (lines .entry))) × (now (lines .exit) ≡ put (now (lines .entry)) 0 (lastLine place (now (rest .entry)))) ⌝ }
+{
+    if rest.len() == 0 {
+        return 0;
+    }
+    put_line(lines, 0, place, rest[0], &[MALFORMED, 0, 0, 0])
 }
