@@ -68,10 +68,10 @@ class Show(Case):
         self.assertEqual([(row["security"], row["lot"], row["price"], row["haircut"],
                            row["quote day"], row["value of a lot"]) for row in found],
                          [(str(s), str(t["lots"][s]), str(t["prices"][s]), str(t["haircuts"][s]),
-                           date(t["quotes"][s]), str(self.value(t, s, t["lots"][s])))
+                           date(t["quoteDays"][s]), str(self.value(t, s, t["lots"][s])))
                           for s in range(64) if t["lots"][s]])
         self.assertEqual([list(row.values()) for row in self.csv("baskets")],
-                         [[str(b), str(t["ages"][b]), str(bin(t["maps"][b]).count("1")),
+                         [[str(b), str(t["greatestAges"][b]), str(bin(t["maps"][b]).count("1")),
                            bits(t["maps"][b]).split()[0], bits(t["maps"][b])]
                           for b in range(16) if t["maps"][b]])
         self.assertEqual([list(map(int, row.values())) for row in self.csv("accounts")],
@@ -84,15 +84,15 @@ class Show(Case):
         want = []
         for row in sorted((r for r in range(256) if t["numbers"][r]),
                           key=lambda r: t["numbers"][r]):
-            fop = t["kinds"][row] == 6
+            fop = t["requestKinds"][row] == 6
             amount, settled = t["amounts"][row], t["settledAmounts"][row]
             partner = t["partners"][row]
             state = ("settled" if settled == amount else "ended" if t["ends"][row] else
                      "settled in part" if settled else "paired" if partner else "waits")
             want.append([str(t["numbers"][row]), "fop" if fop else "return",
                          SIDES[t["sides"][row]], str(t["givers"][row]), str(t["takers"][row]),
-                         str(t["objects"][row]) if fop else "-",
-                         "-" if fop else str(t["objects"][row]), str(amount),
+                         str(t["basketsOrExposures"][row]) if fop else "-",
+                         "-" if fop else str(t["basketsOrExposures"][row]), str(amount),
                          date(t["settlements"][row]),
                          "-" if not fop else date(t["closings"][row]) if t["closings"][row]
                          else "open", str(t["references"][row]), state, str(settled),
@@ -109,7 +109,7 @@ class Show(Case):
                 continue
             held = [(s, t["positions"][64 * e + s]) for s in range(64) if t["positions"][64 * e + s]]
             value = sum(self.value(t, s, n) for s, n in held)
-            amount = t["exposures"][e]
+            amount = t["exposureAmounts"][e]
             cover = value * 10000 // amount if amount else 0
             closing = t["exposureClosings"][e]
             want.append([str(e), str(t["exposureGivers"][e]), str(t["exposureTakers"][e]),

@@ -11,8 +11,7 @@ use Rattle.book.specs.Layout.{lots, modes, inUse, exposureGivers, accounts, pos
 use Rattle.book.specs.State.{State}
 use Rattle.rules.specs.Codes.{depositRules, withdrawalRules}
 use Rattle.rules.specs.Outcome.{lowest}
-use Rattle.rules.specs.Sound.{holding, positionFrom}
-use Rattle.rules.specs.Stock.{participantSetUp, securitySetUp}
+use Rattle.rules.specs.Stock.{participantSetUp, securitySetUp, holding, positionFrom}
 use Rattle.accounts.specs.Accounts.{accountCode}
 
 -- the positions of a participant's exposures

@@ -5,7 +5,8 @@ use Prim.Native.Nat.{ℕ, _+_, _*_, _≤_, _<_}
 use Rattle.book.specs.Layout.{accounts}
 use Rattle.book.specs.State.{State}
 use Rattle.rules.specs.Codes.{noParticipant, noSecurity}
-use Rattle.rules.specs.Outcome.{lowest, field}
+use Rattle.rules.specs.Outcome.{lowest}
+use Rattle.rules.specs.Fields.{field}
 
 -- 5 where the participant or the security is not set up
 abbrev pub accountCode : State → ℕ → ℕ → ℕ

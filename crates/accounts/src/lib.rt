@@ -10,7 +10,7 @@ ghost use Rattle.records.specs.Writing.{areLegal};
 ghost use Rattle.rules.specs.Codes.{depositRules, withdrawalRules};
 ghost use Rattle.rules.specs.Outcome.{lowest};
 ghost use Rattle.rules.specs.SetUp.{deposited, withdrawn};
-ghost use Rattle.rules.specs.Sound.{holding, positionFrom};
+ghost use Rattle.rules.specs.Stock.{holding, positionFrom};
 ghost use Rattle.accounts.specs.Accounts.{accountCode, AccountRoom, AccountHolds};
 use book::layout::ACCOUNTS;
 use book::layout::EXPOSURE_GIVERS;

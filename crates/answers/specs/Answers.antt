@@ -2,7 +2,7 @@
 -- Assumes nothing.
 use mathlib.Core.Bool.{Bool, true, false}
 use Prim.Native.Nat.{ℕ}
-use Rattle.answers.specs.declared.Answer.{Answer}
+use Rattle.answers.specs.declared.CodedValue.{CodedValue}
 
 -- 3: no or unknown kind, or body of another length
 abbrev pub malformed : ℕ
@@ -17,14 +17,14 @@ abbrev pub badDay : ℕ
 badDay = 7
 
 -- an accepted call has code 0
-abbrev pub accepted : ℕ → Answer
+abbrev pub accepted : ℕ → CodedValue
 accepted v = record { code = 0; value = v }
 
 -- "The answer's other fields are 0"
-abbrev pub refused : ℕ → Answer
+abbrev pub refused : ℕ → CodedValue
 refused c = record { code = c; value = 0 }
 
 -- the number where the test holds, and else the refusal
-abbrev pub acceptedIf : Bool → ℕ → ℕ → Answer
+abbrev pub acceptedIf : Bool → ℕ → ℕ → CodedValue
 acceptedIf true c v = accepted v
 acceptedIf false c v = refused c

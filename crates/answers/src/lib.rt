@@ -11,19 +11,19 @@ pub const BAD_DAY: u64 = 7;
 
 // code 0 and the number asked for, or the code of a refusal and 0.
 #[repr(C)]
-pub struct Answer {
+pub struct CodedValue {
     pub code: u64,
     pub value: u64,
 }
 
-pub fn accept(value: u64) -> Answer
+pub fn accept(value: u64) -> CodedValue
     ensures { λ r. ⌜ r ≡ accepted value ⌝ }
 {
-    Answer { code: 0, value }
+    CodedValue { code: 0, value }
 }
 
-pub fn refuse(code: u64) -> Answer
+pub fn refuse(code: u64) -> CodedValue
     ensures { λ r. ⌜ r ≡ refused code ⌝ }
 {
-    Answer { code, value: 0 }
+    CodedValue { code, value: 0 }
 }

@@ -11,12 +11,12 @@ use lib.Dec.{eqb}
 use lib.ListN.{getD}
 use borrow.Author.Tests.{eq-eqb, ne-eqb, le-leb}
 use Rattle.laws.specs.Search.{all}
-use Rattle.book.specs.Layout.{inUse, exposureGivers, exposures, accounts, positions}
+use Rattle.book.specs.Layout.{inUse, exposureGivers, exposureAmounts, accounts, positions}
 use Rattle.book.specs.State.{State, put, lowered, Fits}
 use Rattle.book.proofs.Images.{put-same, put-apart, put-fits}
 use Rattle.book.proofs.Moves.{raised-other, lowered-other}
-use Rattle.rules.specs.Sound.{holding, soundHead, soundSecurity, soundParticipant, soundBasket, isSpare, soundRow, distinctNumber, soundExposure, distinctKey, soundPosition}
-use Rattle.rules.specs.Stock.{pledge, giveBack}
+use Rattle.rules.specs.ByRow.{soundHead, soundSecurity, soundParticipant, soundBasket, isSpare, soundRow, distinctNumber, soundExposure, distinctKey, soundPosition}
+use Rattle.rules.specs.Stock.{pledge, giveBack, holding}
 use Rattle.facts.proofs.Keeps.{Good}
 use Rattle.facts.proofs.Rows.{used-exposure, position-facts, position-none, position-stocked}
 use Rattle.bond_laws.proofs.Lots.{InLots, Pledgeable, Returnable, pledge-lowerable, giveBack-lowerable, lots-add, lots-sub, position-lots}
@@ -24,33 +24,33 @@ use Rattle.bond_laws.proofs.Moving.{pledge-position, pledge-other-posit
 
 -- a state with other amounts, accounts and positions: it differs in these three tables alone
 abbrev stocked : State → (ℕ → ℕ) → (ℕ → ℕ) → (ℕ → ℕ) → State
-stocked s amount account position f j = cond (eqb f exposures) (amount j) (cond (eqb f accounts) (account j) (cond (eqb f positions) (position j) (s f j)))
+stocked s amount account position f j = cond (eqb f exposureAmounts) (amount j) (cond (eqb f accounts) (account j) (cond (eqb f positions) (position j) (s f j)))
 
 pub record Restocked (s t : State) : Type 0 where
-  pub same : (f j : ℕ) → (f ≡ exposures → ⊥) → (f ≡ accounts → ⊥) → (f ≡ positions → ⊥) → t f j ≡ s f j
+  pub same : (f j : ℕ) → (f ≡ exposureAmounts → ⊥) → (f ≡ accounts → ⊥) → (f ≡ positions → ⊥) → t f j ≡ s f j
   pub exposure : (e : ℕ) → e < 64 → soundExposure t e ≡ true
   pub position : (e i : ℕ) → e < 64 → i < 64 → soundPosition t e i ≡ true
   pub held : (p i : ℕ) → p < 32 → i < 64 → holding t p i ≡ holding s p i
   pub fits : Fits t
 
 module _ (s t : State) (h : Good s) (r : Restocked s t) where
-  as-stocked : t ≡ stocked s (t exposures) (t accounts) (t positions)
+  as-stocked : t ≡ stocked s (t exposureAmounts) (t accounts) (t positions)
   as-stocked =
       fun-ext (λ f.
       fun-ext (λ j.
-      elim (ℕ-discrete f exposures) [
+      elim (ℕ-discrete f exposureAmounts) [
         | yes x ↦ rw x
         | no x ↦ elim (ℕ-discrete f accounts) [
           | yes a ↦ rw a
           | no a ↦ elim (ℕ-discrete f positions) [
             | yes p ↦ rw p
-            | no p ↦ rw (ne-eqb f exposures x, ne-eqb f accounts a, ne-eqb f positions p) (r .same f j x a p)
+            | no p ↦ rw (ne-eqb f exposureAmounts x, ne-eqb f accounts a, ne-eqb f positions p) (r .same f j x a p)
           ]
         ]
       ]))
 
   -- a clause that reads none of the three
-  kept : (P : State → Type 0) → P (stocked s (t exposures) (t accounts) (t positions)) → P t
+  kept : (P : State → Type 0) → P (stocked s (t exposureAmounts) (t accounts) (t positions)) → P t
   kept P c = subst P (sym as-stocked) c
 
   pub good-restocked : Good t
@@ -75,7 +75,7 @@ module _ (s t : State) (h : Good s) (r : Restocked s t) where
       }
 
 -- a position in whole lots is sound, where it is none or stands in a used exposure whose amount is not 0
-sound-position : (s : State) (e i : ℕ) → InLots s i (s positions (64 * e + i)) → (s positions (64 * e + i) ≡ 0) ⊎ ((s inUse e ≡ 1) × (s exposures e ≡ 0 → ⊥)) → soundPosition s e i ≡ true
+sound-position : (s : State) (e i : ℕ) → InLots s i (s positions (64 * e + i)) → (s positions (64 * e + i) ≡ 0) ⊎ ((s inUse e ≡ 1) × (s exposureAmounts e ≡ 0 → ⊥)) → soundPosition s e i ≡ true
 sound-position s e i w (inl z) = position-none s e i z
 sound-position s e i (inl z) (inr a) = position-none s e i z
 sound-position s e i (inr w) (inr a) = position-stocked s e i (record { used = a .0; amount = a .1; known = w .0; whole = w .1 })
@@ -89,7 +89,7 @@ module _ (s : State) (e : ℕ) (n : List ℕ) (h : Good s) (below : e < 64) (u :
   giver = s exposureGivers e
 
   -- bonds into an exposure whose amount is not 0
-  pub good-pledge : (s exposures e ≡ 0 → ⊥) → Pledgeable s e n → Good (pledge s e n)
+  pub good-pledge : (s exposureAmounts e ≡ 0 → ⊥) → Pledgeable s e n → Good (pledge s e n)
   unfolding all
   good-pledge a p =
       good-restocked s (pledge s e n) h (record {
@@ -131,40 +131,40 @@ module _ (s : State) (e : ℕ) (n : List ℕ) (h : Good s) (below : e < 64) (u :
 
 -- another amount: an exposure of amount 0 has no position
 module _ (s : State) (e x : ℕ) (h : Good s) (below : e < 64) (u : s inUse e ≡ 1) (small : x ≤ 10000000000000) where
-  amount-exposure : (d : ℕ) → d < 64 → soundExposure (put s exposures e x) d ≡ true
+  amount-exposure : (d : ℕ) → d < 64 → soundExposure (put s exposureAmounts e x) d ≡ true
   unfolding all
   amount-exposure d m =
       elim (ℕ-discrete d e) [
         | yes q ↦
             let old = used-exposure s e (h .facts .exposure e below) u .amount in
-            rw (q, u, eq-eqb e e refl, le-leb x 10000000000000 small) (rw (u, le-leb (s exposures e) 10000000000000 old) at (h .facts .exposure e below))
+            rw (q, u, eq-eqb e e refl, le-leb x 10000000000000 small) (rw (u, le-leb (s exposureAmounts e) 10000000000000 old) at (h .facts .exposure e below))
         | no q ↦ rw (ne-eqb d e q) (h .facts .exposure d m)
       ]
 
-  pub good-amount : (x ≡ 0 → (i : ℕ) → i < 64 → s positions (64 * e + i) ≡ 0) → Good (put s exposures e x)
+  pub good-amount : (x ≡ 0 → (i : ℕ) → i < 64 → s positions (64 * e + i) ≡ 0) → Good (put s exposureAmounts e x)
   unfolding holding
   good-amount none =
-      good-restocked s (put s exposures e x) h (record {
-        same = λ f j n k q. put-apart s exposures e x f j n;
+      good-restocked s (put s exposureAmounts e x) h (record {
+        same = λ f j n k q. put-apart s exposureAmounts e x f j n;
         exposure = amount-exposure;
         position = λ d i m l.
             elim (ℕ-discrete d e) [
-              | yes q ↦ rw q (sound-position (put s exposures e x) e i (position-lots s (h .facts) e i below l)
-                  (elim (ℕ-discrete x 0) [ yes z ↦ inl (none z i l) | no z ↦ inr (u, rw (put-same s exposures e x) z) ]))
+              | yes q ↦ rw q (sound-position (put s exposureAmounts e x) e i (position-lots s (h .facts) e i below l)
+                  (elim (ℕ-discrete x 0) [ yes z ↦ inl (none z i l) | no z ↦ inr (u, rw (put-same s exposureAmounts e x) z) ]))
               | no q ↦ rw (ne-eqb d e q) (h .facts .position d i m l)
             ];
         held = λ p i m l. refl;
-        fits = put-fits s exposures e x (h .fits) (omega arith) below (omega arith);
+        fits = put-fits s exposureAmounts e x (h .fits) (omega arith) below (omega arith);
       })
 
 -- the amount first, or the bonds first
-pub giveBack-put : (s : State) (e x : ℕ) (n : List ℕ) → giveBack (put s exposures e x) e n ≡ put (giveBack s e n) exposures e x
+pub giveBack-put : (s : State) (e x : ℕ) (n : List ℕ) → giveBack (put s exposureAmounts e x) e n ≡ put (giveBack s e n) exposureAmounts e x
 giveBack-put s e x n =
-    fun-ext (λ f. fun-ext (λ j. elim (ℕ-discrete f exposures) [ yes q ↦ rw q | no q ↦ rw (ne-eqb f exposures q) ]))
+    fun-ext (λ f. fun-ext (λ j. elim (ℕ-discrete f exposureAmounts) [ yes q ↦ rw q | no q ↦ rw (ne-eqb f exposureAmounts q) ]))
 
 -- another amount and bonds back at once, all of them where the amount is 0: between the two the book may not be sound
 pub good-lowered : (s : State) (e x : ℕ) (n : List ℕ) → Good s → e < 64 → s inUse e ≡ 1 → x ≤ 10000000000000 → Returnable s e n
-    → (x ≡ 0 → (i : ℕ) → i < 64 → getD n i 0 ≡ s positions (64 * e + i)) → Good (giveBack (put s exposures e x) e n)
+    → (x ≡ 0 → (i : ℕ) → i < 64 → getD n i 0 ≡ s positions (64 * e + i)) → Good (giveBack (put s exposureAmounts e x) e n)
 good-lowered s e x n h below u small r entire =
     rw giveBack-put
     (good-amount (giveBack s e n) e x (good-giveBack s e n h below u r) below u small

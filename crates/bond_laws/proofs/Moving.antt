@@ -13,8 +13,7 @@ use Rattle.laws.proofs.Sum.{sum-same, sum-part, sum-one}
 use Rattle.book.specs.Layout.{inUse, exposureGivers, accounts, positions}
 use Rattle.book.specs.State.{State, lowered, Raisable, Lowerable, Fits}
 use Rattle.book.proofs.Moves.{raised-at, lowered-at, raised-other, lowered-other, raised-fits, lowered-fits}
-use Rattle.rules.specs.Sound.{holding, positionFrom}
-use Rattle.rules.specs.Stock.{pledge, giveBack}
+use Rattle.rules.specs.Stock.{pledge, giveBack, holding, positionFrom}
 
 -- two rows of 64 numbers have none in common
 apart : (p q i : ℕ) → (p ≡ q → ⊥) → i < 64 → 64 * q ≤ 64 * p + i → 64 * p + i < 64 * q + 64 → ⊥

@@ -7,7 +7,7 @@ use lib.ListN.{getD}
 use Rattle.baskets.specs.declared.Basket.{Basket}
 use Rattle.securities.specs.Position.{nominalsOf, Within}
 use Rattle.securities.specs.Security.{AllInBounds}
-use Rattle.book.specs.Layout.{inUse, exposureBaskets, exposures}
+use Rattle.book.specs.Layout.{inUse, exposureBaskets, exposureAmounts}
 use Rattle.book.specs.State.{state}
 use Rattle.book.proofs.Images.{state-fits}
 use Rattle.rules.specs.Stock.{basketOf, positionOf}
@@ -40,7 +40,7 @@ module _ {book columns : List ℕ} (m : SoundBook book columns) where
       pub basket-below : state book exposureBaskets e < 16
       basket-below = exposure-of .basket-below
 
-      pub amount-le : state book exposures e ≤ 10000000000000
+      pub amount-le : state book exposureAmounts e ≤ 10000000000000
       amount-le = exposure-of .amount
 
       pub oldest-le : {b : Basket} → b ≡ basketOf (state book) e → b .oldest ≤ 255

@@ -1,6 +1,6 @@
 -- The book's layout: numbered tables, one for each field, one after the other. docs/LAYOUT.md says the same in prose.
 -- Assumes nothing.
-use mathlib.Core.List.{List, [], _∷_}
+use mathlib.Core.List.{List, [], _∷_, _++_}
 use Prim.Native.Nat.{ℕ, _+_, _*_}
 use lib.ListN.{getD}
 use Rattle.laws.specs.Sum.{sum}
@@ -42,8 +42,8 @@ abbrev pub haircuts : ℕ
 haircuts = 5
 
 -- the quote day
-abbrev pub quotes : ℕ
-quotes = 6
+abbrev pub quoteDays : ℕ
+quoteDays = 6
 
 -- participants, the profile in force: 1 automatic, 2 list, 3 by hand, 0 where not set up
 abbrev pub modes : ℕ
@@ -74,16 +74,16 @@ abbrev pub maps : ℕ
 maps = 13
 
 -- the greatest age
-abbrev pub ages : ℕ
-ages = 14
+abbrev pub greatestAges : ℕ
+greatestAges = 14
 
 -- requests: the number, 0 where the row is not used
 abbrev pub numbers : ℕ
 numbers = 15
 
 -- 6 for a FOP, 7 for a return
-abbrev pub kinds : ℕ
-kinds = 16
+abbrev pub requestKinds : ℕ
+requestKinds = 16
 
 -- 0 giver, 1 taker
 abbrev pub sides : ℕ
@@ -98,8 +98,8 @@ abbrev pub takers : ℕ
 takers = 19
 
 -- the basket of a FOP, the exposure of a return
-abbrev pub objects : ℕ
-objects = 20
+abbrev pub basketsOrExposures : ℕ
+basketsOrExposures = 20
 
 -- the amount
 abbrev pub amounts : ℕ
@@ -158,8 +158,8 @@ abbrev pub exposureClosings : ℕ
 exposureClosings = 34
 
 -- the amount
-abbrev pub exposures : ℕ
-exposures = 35
+abbrev pub exposureAmounts : ℕ
+exposureAmounts = 35
 
 -- accounts: the nominal of security i of participant p, at 64 p + i
 abbrev pub accounts : ℕ
@@ -219,6 +219,37 @@ layout =
     ∷ table 4096 4
     ∷ table 589 4
     ∷ []
+
+-- the tables of one thing, by name; every table stands in one of these groups (TablesNamed)
+abbrev pub headTables : List ℕ
+headTables = today ∷ tolerance ∷ nextNumber ∷ []
+
+abbrev pub securityTables : List ℕ
+securityTables = lots ∷ prices ∷ haircuts ∷ quoteDays ∷ []
+
+abbrev pub profileTables : List ℕ
+profileTables = modes ∷ lists ∷ partials ∷ []
+
+abbrev pub waitingTables : List ℕ
+waitingTables = waitingModes ∷ waitingLists ∷ waitingPartials ∷ []
+
+abbrev pub basketTables : List ℕ
+basketTables = maps ∷ greatestAges ∷ []
+
+-- what the two requests of a pair agree on: "all fields but side and reference", beside their kind
+abbrev pub termTables : List ℕ
+termTables = givers ∷ takers ∷ basketsOrExposures ∷ amounts ∷ settlements ∷ closings ∷ []
+
+-- a request: what is entered, and what it has come to
+abbrev pub requestTables : List ℕ
+requestTables = numbers ∷ requestKinds ∷ sides ∷ (termTables ++ (references ∷ settledAmounts ∷ partners ∷ pairPartials ∷ cancels ∷ ends ∷ []))
+
+-- an exposure's key: "its giver, taker, basket and closing date"
+abbrev pub keyTables : List ℕ
+keyTables = exposureGivers ∷ exposureTakers ∷ exposureBaskets ∷ exposureClosings ∷ []
+
+abbrev pub exposureTables : List ℕ
+exposureTables = inUse ∷ (keyTables ++ (exposureAmounts ∷ []))
 
 abbrev pub rowsOf : ℕ → ℕ
 rowsOf f = getD layout f (table 0 0) .rows

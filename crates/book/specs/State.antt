@@ -1,12 +1,13 @@
 -- The book as a state: a number for each row of each table. The steps and codes above speak of numbers; only the call and the reads as a whole speak of bytes again.
 -- Assumes nothing.
-use mathlib.Core.Bool.{Bool, _&&_, cond}
+use mathlib.Core.Bool.{Bool, true, _&&_, cond}
 use mathlib.Core.Path.{_≡_}
-use mathlib.Core.List.{List, [], _++_}
+use mathlib.Core.List.{List, [], _∷_, _++_}
 use Prim.Native.Nat.{ℕ, zero, suc, _+_, _-_, _/_, _%_, _^_, _≤_, _<_}
 use lib.Dec.{eqb, leb, ltb}
 use lib.ListN.{getD}
 use Rattle.laws.specs.Filled.{filled}
+use Rattle.laws.specs.Lists.{every}
 use Rattle.laws.specs.Numbers.{numberAt, bytesOf}
 use Rattle.book.specs.Layout.{rowsOf, widthOf, placeOf, tableCount, lots}
 
@@ -21,6 +22,30 @@ state b f i = cond (ltb i (rowsOf f)) (numberAt b (placeOf f i) (widthOf f)) 0
 -- the state with x in the row i of the table f
 abbrev pub put : State → ℕ → ℕ → ℕ → State
 put s f i x g j = cond (eqb g f) (cond (eqb j i) x (s g j)) (s g j)
+
+-- a row in several tables: one number written in each
+abbrev pub putRow : State → List ℕ → ℕ → List ℕ → State
+putRow s [] i xs = s
+putRow s (f ∷ fs) i [] = s
+putRow s (f ∷ fs) i (x ∷ xs) = putRow (put s f i x) fs i xs
+
+-- the row holds nothing: 0 written in each
+abbrev pub clearRow : State → List ℕ → ℕ → State
+clearRow s [] i = s
+clearRow s (f ∷ fs) i = clearRow (put s f i 0) fs i
+
+-- it holds these numbers, the same as another row, nothing
+abbrev pub rowIs : State → List ℕ → ℕ → List ℕ → Bool
+rowIs s [] i xs = true
+rowIs s (f ∷ fs) i [] = true
+rowIs s (f ∷ []) i (x ∷ xs) = eqb (s f i) x
+rowIs s (f ∷ (g ∷ gs)) i (x ∷ xs) = eqb (s f i) x && rowIs s (g ∷ gs) i xs
+
+abbrev pub rowsAlike : State → List ℕ → ℕ → ℕ → Bool
+rowsAlike s fs i j = every (λ f. eqb (s f i) (s f j)) fs
+
+abbrev pub rowBlank : State → List ℕ → ℕ → Bool
+rowBlank s fs i = every (λ f. eqb (s f i) 0) fs
 
 -- the 64 numbers of a table from a row on: an account, a position
 abbrev pub rowAt : State → ℕ → ℕ → List ℕ

@@ -15,7 +15,7 @@ pub const PRICES: usize = 4;
 
 pub const HAIRCUTS: usize = 5;
 
-pub const QUOTES: usize = 6;
+pub const QUOTE_DAYS: usize = 6;
 
 pub const MODES: usize = 7;
 
@@ -31,11 +31,11 @@ pub const WAITING_PARTIALS: usize = 12;
 
 pub const MAPS: usize = 13;
 
-pub const AGES: usize = 14;
+pub const GREATEST_AGES: usize = 14;
 
 pub const NUMBERS: usize = 15;
 
-pub const KINDS: usize = 16;
+pub const REQUEST_KINDS: usize = 16;
 
 pub const SIDES: usize = 17;
 
@@ -43,7 +43,7 @@ pub const GIVERS: usize = 18;
 
 pub const TAKERS: usize = 19;
 
-pub const OBJECTS: usize = 20;
+pub const BASKETS_OR_EXPOSURES: usize = 20;
 
 pub const AMOUNTS: usize = 21;
 
@@ -73,7 +73,7 @@ pub const EXPOSURE_BASKETS: usize = 33;
 
 pub const EXPOSURE_CLOSINGS: usize = 34;
 
-pub const EXPOSURES: usize = 35;
+pub const EXPOSURE_AMOUNTS: usize = 35;
 
 pub const ACCOUNTS: usize = 36;
 
@@ -128,7 +128,7 @@ pub fn width_of(f: usize) -> usize
     if f < MAPS {
         return 4;
     }
-    if f < AGES {
+    if f < GREATEST_AGES {
         return 8;
     }
     if f < AMOUNTS {
@@ -143,7 +143,7 @@ pub fn width_of(f: usize) -> usize
     if f < PARTNERS {
         return 8;
     }
-    if f < EXPOSURES {
+    if f < EXPOSURE_AMOUNTS {
         return 4;
     }
     if f < ACCOUNTS {

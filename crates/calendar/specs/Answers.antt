@@ -3,19 +3,19 @@
 use mathlib.Core.Bool.{Bool, _&&_}
 use Prim.Native.Nat.{ℕ}
 use lib.Dec.{leb}
-use Rattle.answers.specs.declared.Answer.{Answer}
+use Rattle.answers.specs.declared.CodedValue.{CodedValue}
 use Rattle.answers.specs.Answers.{acceptedIf, badDay}
 use Rattle.calendar.specs.Gregorian.{oneIf}
 use Rattle.calendar.specs.Target.{lastDay, openDay, nextOpenDay, age}
 
 -- 1 for an open day, 0 for a closed one; 7 above 146,096
-unfoldable pub isOpenAnswer : ℕ → Answer
+unfoldable pub isOpenAnswer : ℕ → CodedValue
 isOpenAnswer d = acceptedIf (leb d lastDay) badDay (oneIf (openDay d))
 
 -- the next open day; 7 where the day named is not open, or there is no next day
-unfoldable pub nextOpenDayAnswer : ℕ → Answer
+unfoldable pub nextOpenDayAnswer : ℕ → CodedValue
 nextOpenDayAnswer d = acceptedIf (openDay d && leb (nextOpenDay d) lastDay) badDay (nextOpenDay d)
 
 -- the age of a price; 7 where a day named is not open, or the quote is after today
-unfoldable pub ageAnswer : ℕ → ℕ → Answer
+unfoldable pub ageAnswer : ℕ → ℕ → CodedValue
 ageAnswer quote today = acceptedIf (openDay quote && (openDay today && leb quote today)) badDay (age quote today)

@@ -8,8 +8,8 @@ ghost use Rattle.calendar.specs.Easter.{easter};
 ghost use Rattle.calendar.specs.Fresh.{FreshDays};
 ghost use Rattle.calendar.specs.Target.{easterHoliday, holiday, openDay, nextOpenDay, age};
 ghost use Rattle.calendar.specs.YearDay.{yearDay};
-use answers::Answer;
 use answers::BAD_DAY;
+use answers::CodedValue;
 
 mod easter;
 
@@ -166,7 +166,7 @@ pub fn fresh_days(from: u64, today: u64, most: usize) -> [u64; 256]
 
 // Is a day open (1) or closed (0)? Code 7 above 146096.
 #[no_mangle]
-pub extern "C" fn calendar_is_open(day: u64) -> Answer
+pub extern "C" fn calendar_is_open(day: u64) -> CodedValue
     ensures { λ r. ⌜ r ≡ isOpenAnswer day ⌝ }
 {
     if LAST_DAY < day {
@@ -181,7 +181,7 @@ pub extern "C" fn calendar_is_open(day: u64) -> Answer
 
 // The first open day after an open day. Code 7 for a day that is not open, and where there is no next one.
 #[no_mangle]
-pub extern "C" fn calendar_next_open_day(day: u64) -> Answer
+pub extern "C" fn calendar_next_open_day(day: u64) -> CodedValue
     ensures { λ r. ⌜ r ≡ nextOpenDayAnswer day ⌝ }
 {
     if !is_open(day) {
@@ -196,7 +196,7 @@ pub extern "C" fn calendar_next_open_day(day: u64) -> Answer
 
 // The age of a price in open days. Code 7 where a day is not open, or the quote is after today.
 #[no_mangle]
-pub extern "C" fn calendar_price_age(quote: u64, today: u64) -> Answer
+pub extern "C" fn calendar_price_age(quote: u64, today: u64) -> CodedValue
     ensures { λ r. ⌜ r ≡ ageAnswer quote today ⌝ }
 {
     if !is_open(quote) {

@@ -7,7 +7,7 @@ use Rattle.calendar.specs.Target.{nextOpenDay}
 use Rattle.book.specs.Layout.{today}
 use Rattle.book.specs.State.{State, put}
 use Rattle.rules.specs.DayChange.{isDropped, blanked, rowsDropped, changeTakesEffect, profilesChanged, exposuresClosed, exposuresFreed, dayChanged, nextDay}
-use Rattle.rules.specs.Sound.{holding}
+use Rattle.rules.specs.Stock.{holding}
 use Rattle.totals.specs.Totals.{totalsOf}
 use Rattle.totals.specs.declared.Totals.{Totals}
 use Rattle.day_laws.proofs.Each.{each-keeps}

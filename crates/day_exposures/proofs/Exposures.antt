@@ -9,11 +9,10 @@ use native.Mathlib.Omega.{arith}
 use lib.Dec.{eqb}
 use borrow.Author.Tests.{eqb-true, eq-eqb, ne-eqb}
 use Rattle.laws.specs.Filled.{filled}
-use Rattle.book.specs.Layout.{inUse, exposures, positions}
+use Rattle.book.specs.Layout.{inUse, exposureAmounts, positions}
 use Rattle.book.specs.State.{State, Lowerable}
 use Rattle.rules.specs.DayChange.{onEach, isExposureClosed, exposureClosed, isIdle, exposureFreed}
-use Rattle.rules.specs.Sound.{holding}
-use Rattle.rules.specs.Stock.{positionOf}
+use Rattle.rules.specs.Stock.{positionOf, holding}
 use Rattle.facts.proofs.Facts.{Sound}
 use Rattle.facts.proofs.Rows.{used-exposure}
 use Rattle.facts.proofs.Stock.{position-at}
@@ -88,7 +87,7 @@ closed-apart day s j e l = refl
 pub amount-le : (s : State) (day e : ℕ) → e < 64 → Closable s → amountClosed s day e ≤ 10000000000000
 amount-le s day e l h = go (isExposureClosed s day e) (λ q. h .amount e l (closed-used s day e q))
   where
-    go : (b : Bool) → (b ≡ true → s exposures e ≤ 10000000000000) → cond b (s exposures e) 0 ≤ 10000000000000
+    go : (b : Bool) → (b ≡ true → s exposureAmounts e ≤ 10000000000000) → cond b (s exposureAmounts e) 0 ≤ 10000000000000
     go true k = k refl
     go false k = omega arith
 

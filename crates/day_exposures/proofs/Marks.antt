@@ -12,7 +12,7 @@ use lib.ListN.{length, getD, set, length-set, replicate, length-replicate, getD-
 use lib.Seq.{getD-set-same, getD-set-other}
 use borrow.Author.Tests.{eqb-true, ne-eqb}
 use Rattle.laws.proofs.Cases.{either, clash}
-use Rattle.book.specs.Layout.{numbers, kinds, givers, takers, objects, closings, partners, inUse, exposureGivers, exposureTakers, exposureBaskets, exposureClosings, exposures}
+use Rattle.book.specs.Layout.{numbers, requestKinds, givers, takers, basketsOrExposures, closings, partners, inUse, exposureGivers, exposureTakers, exposureBaskets, exposureClosings, exposureAmounts}
 use Rattle.book.specs.State.{State}
 use Rattle.rules.specs.DayChange.{belongs, isIdle, exposureFreed, onEach}
 use Rattle.rules.specs.Requests.{isUsed, isFop, isPaired, hasKey}
@@ -26,14 +26,14 @@ use Rattle.day_exposures.proofs.Returns.{no-row, by-name, by-rows}
 
 -- an exposure has the key of a FOP row
 abbrev hasKeyOf : State → ℕ → ℕ → Bool
-hasKeyOf s e i = hasKey s (s givers i) (s takers i) (s objects i) (s closings i) e
+hasKeyOf s e i = hasKey s (s givers i) (s takers i) (s basketsOrExposures i) (s closings i) e
 
 -- the slot of a row
 module _ (s : State) (i : ℕ) {n : ℕ} (nq : n ≡ s numbers i) where
   pub unused-slot : n ≡ 0 → RowSlot s i 1024
   unused-slot z = record { below = omega arith; same = λ e l h. clash h (sym (no-row s e i nq z)) }
 
-  module _ (used : n ≡ 0 → ⊥) {k o : ℕ} (kq : k ≡ s kinds i) (oq : o ≡ s objects i) where
+  module _ (used : n ≡ 0 → ⊥) {k o : ℕ} (kq : k ≡ s requestKinds i) (oq : o ≡ s basketsOrExposures i) where
     named : k ≡ 7 → (e : ℕ) → belongs s e i ≡ true → o ≡ e
     named z e h = eqb-true o e (by-name s e i nq used kq z oq ∙ h)
 
@@ -45,7 +45,7 @@ module _ (s : State) (i : ℕ) {n : ℕ} (nq : n ≡ s numbers i) where
 
     fop-key : (k ≡ 7 → ⊥) → (e : ℕ) → belongs s e i ≡ true → hasKeyOf s e i ≡ true
     fop-key m e h =
-        let f : (isUsed s i && (isFop s i && (isPaired s i && hasKeyOf s e i))) ≡ true = rw (ne-eqb (s kinds i) 7 (λ z. m (kq ∙ z))) at h in
+        let f : (isUsed s i && (isFop s i && (isPaired s i && hasKeyOf s e i))) ≡ true = rw (ne-eqb (s requestKinds i) 7 (λ z. m (kq ∙ z))) at h in
         split (isUsed s i ∷ isFop s i ∷ isPaired s i ∷ hasKeyOf s e i ∷ []) f .1 .1 .1
 
     pub fop-slot : {r g t c : ℕ} → (k ≡ 7 → ⊥) → g ≡ s givers i → t ≡ s takers i → c ≡ s closings i → (r ≡ keySlot g t o c) × (r < 1024) → RowSlot s i r
@@ -53,7 +53,7 @@ module _ (s : State) (i : ℕ) {n : ℕ} (nq : n ≡ s numbers i) where
       where
         slot : (e : ℕ) → e < 64 → belongs s e i ≡ true → r ≡ slotOf s e
         slot e l h =
-            let t = split (eqb (s inUse e) 1 ∷ eqb (s exposureGivers e) (s givers i) ∷ eqb (s exposureTakers e) (s takers i) ∷ eqb (s exposureBaskets e) (s objects i) ∷ eqb (s exposureClosings e) (s closings i) ∷ []) (fop-key m e h) in
+            let t = split (eqb (s inUse e) 1 ∷ eqb (s exposureGivers e) (s givers i) ∷ eqb (s exposureTakers e) (s takers i) ∷ eqb (s exposureBaskets e) (s basketsOrExposures i) ∷ eqb (s exposureClosings e) (s closings i) ∷ []) (fop-key m e h) in
             q .0 ∙ rw (
               gq,
               tq,
@@ -61,7 +61,7 @@ module _ (s : State) (i : ℕ) {n : ℕ} (nq : n ≡ s numbers i) where
               cq,
               eqb-true (s exposureGivers e) (s givers i) (t .1 .0),
               eqb-true (s exposureTakers e) (s takers i) (t .1 .1 .0),
-              eqb-true (s exposureBaskets e) (s objects i) (t .1 .1 .1 .0),
+              eqb-true (s exposureBaskets e) (s basketsOrExposures i) (t .1 .1 .1 .0),
               eqb-true (s exposureClosings e) (s closings i) (t .1 .1 .1 .1),
             )
 
@@ -94,7 +94,7 @@ marked-next s marks i slot m p =
     ]
 
 -- an empty exposure at whose slot there is no mark is idle
-pub idle-unmarked : (s : State) (marks : List ℕ) (e : ℕ) {u a p : ℕ} → u ≡ s inUse e → u ≡ 1 → a ≡ s exposures e → a ≡ 0 → MarkedFor s marks e → (p ≡ slotOf s e) × (p < 1024) → getD marks p 0 ≡ 0 → true ≡ isIdle s e
+pub idle-unmarked : (s : State) (marks : List ℕ) (e : ℕ) {u a p : ℕ} → u ≡ s inUse e → u ≡ 1 → a ≡ s exposureAmounts e → a ≡ 0 → MarkedFor s marks e → (p ≡ slotOf s e) × (p < 1024) → getD marks p 0 ≡ 0 → true ≡ isIdle s e
 idle-unmarked s marks e uq used aq z m pq y = by-rows s e uq used aq z (sym (all-of (isNotOf s e) 256 0 (λ j a l. none j (omega arith))))
   where
     none : (j : ℕ) → j < 256 → isNotOf s e j ≡ true

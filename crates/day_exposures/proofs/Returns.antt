@@ -6,7 +6,7 @@ use Prim.Native.Nat.{ℕ}
 use lib.Dec.{eqb}
 use borrow.Author.Tests.{eq-eqb, ne-eqb}
 use Rattle.laws.specs.Search.{all}
-use Rattle.book.specs.Layout.{numbers, kinds, givers, takers, objects, closings, partners, inUse, exposureClosings, exposures}
+use Rattle.book.specs.Layout.{numbers, requestKinds, givers, takers, basketsOrExposures, closings, partners, inUse, exposureClosings, exposureAmounts}
 use Rattle.book.specs.State.{State}
 use Rattle.rules.specs.DayChange.{isReached, isExposureClosed, belongs, isIdle}
 use Rattle.rules.specs.Requests.{hasKey}
@@ -26,8 +26,8 @@ module _ (s : State) (e i : ℕ) {n : ℕ} (nq : n ≡ s numbers i) where
   pub no-row : n ≡ 0 → false ≡ belongs s e i
   no-row z = rw (← nq, z)
 
-  module _ (used : n ≡ 0 → ⊥) {k : ℕ} (kq : k ≡ s kinds i) where
-    pub by-name : {o : ℕ} → k ≡ 7 → o ≡ s objects i → eqb o e ≡ belongs s e i
+  module _ (used : n ≡ 0 → ⊥) {k : ℕ} (kq : k ≡ s requestKinds i) where
+    pub by-name : {o : ℕ} → k ≡ 7 → o ≡ s basketsOrExposures i → eqb o e ≡ belongs s e i
     by-name z oq = rw (← nq, ne-eqb n 0 used, ← kq, z, ← oq) (sym (or-none (eqb _ e)))
 
     pub no-kind : (k ≡ 7 → ⊥) → (k ≡ 6 → ⊥) → false ≡ belongs s e i
@@ -37,7 +37,7 @@ module _ (s : State) (e i : ℕ) {n : ℕ} (nq : n ≡ s numbers i) where
       pub no-pair : p ≡ 0 → false ≡ belongs s e i
       no-pair z = rw (← kq, fop, ← pq, z, and-false)
 
-      pub by-pair : {g t o c : ℕ} {b : Bool} → (p ≡ 0 → ⊥) → g ≡ s givers i → t ≡ s takers i → o ≡ s objects i → c ≡ s closings i → b ≡ hasKey s g t o c e → b ≡ belongs s e i
+      pub by-pair : {g t o c : ℕ} {b : Bool} → (p ≡ 0 → ⊥) → g ≡ s givers i → t ≡ s takers i → o ≡ s basketsOrExposures i → c ≡ s closings i → b ≡ hasKey s g t o c e → b ≡ belongs s e i
       by-pair m gq tq oq cq bq = rw (← nq, ne-eqb n 0 used, ← kq, fop, ← pq, ne-eqb p 0 m, ← gq, ← tq, ← oq, ← cq) bq
 
 -- an exposure that is idle
@@ -45,7 +45,7 @@ module _ (s : State) (e : ℕ) {u : ℕ} (uq : u ≡ s inUse e) where
   pub idle-unused : (u ≡ 1 → ⊥) → false ≡ isIdle s e
   idle-unused n = rw (← uq, ne-eqb u 1 n)
 
-  module _ (used : u ≡ 1) {a : ℕ} (aq : a ≡ s exposures e) where
+  module _ (used : u ≡ 1) {a : ℕ} (aq : a ≡ s exposureAmounts e) where
     pub idle-amount : (a ≡ 0 → ⊥) → false ≡ isIdle s e
     idle-amount n = rw (← aq, ne-eqb a 0 n, and-false)
 

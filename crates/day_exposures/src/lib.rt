@@ -9,16 +9,16 @@ ghost use Rattle.book.specs.State.{state};
 ghost use Rattle.rules.specs.DayChange.{isExposureClosed, exposureClosed, exposuresClosed, belongs, isIdle, exposureFreed, exposuresFreed};
 ghost use Rattle.day_rows.specs.Parts.{tried};
 ghost use Rattle.day_exposures.specs.Parts.{closesOn, amountClosed, amountsClosed, Closable, isNotOf, RowSlot, Marked, MarkedFor};
+use book::layout::BASKETS_OR_EXPOSURES;
 use book::layout::CLOSINGS;
+use book::layout::EXPOSURE_AMOUNTS;
 use book::layout::EXPOSURE_CLOSINGS;
-use book::layout::EXPOSURES;
 use book::layout::GIVERS;
 use book::layout::IN_USE;
-use book::layout::KINDS;
 use book::layout::NUMBERS;
-use book::layout::OBJECTS;
 use book::layout::PARTNERS;
 use book::layout::POSITIONS;
+use book::layout::REQUEST_KINDS;
 use book::layout::TAKERS;
 
 // Is an exposure used, and its closing date reached?
@@ -38,10 +38,10 @@ fn close_exposure(book: &mut [u8], day: u64, e: usize) -> u64
     ensures { λ r. ⌜ (r ≡ amountClosed (state (now (book .entry))) day e) × (state (now (book .exit)) ≡ tried (closesOn day) exposureClosed (state (now (book .entry))) e) ⌝ }
 {
     if is_exposure_closed(book, day, e) {
-        let amount = book::get(book, EXPOSURES, e);
+        let amount = book::get(book, EXPOSURE_AMOUNTS, e);
         let position = book::row_at(book, POSITIONS, 64 * e);
         bonds::give_back(book, e, &position);
-        book::set(book, EXPOSURES, e, 0);
+        book::set(book, EXPOSURE_AMOUNTS, e, 0);
         amount
     } else {
         0
@@ -70,9 +70,9 @@ fn does_belong(book: &[u8], e: usize, i: usize) -> bool
     if book::get(book, NUMBERS, i) == 0 {
         return false;
     }
-    let kind = book::get(book, KINDS, i);
+    let kind = book::get(book, REQUEST_KINDS, i);
     if kind == 7 {
-        return book::get(book, OBJECTS, i) == e as u64;
+        return book::get(book, BASKETS_OR_EXPOSURES, i) == e as u64;
     }
     if kind != 6 {
         return false;
@@ -85,7 +85,7 @@ fn does_belong(book: &[u8], e: usize, i: usize) -> bool
         book,
         book::get(book, GIVERS, i),
         book::get(book, TAKERS, i),
-        book::get(book, OBJECTS, i),
+        book::get(book, BASKETS_OR_EXPOSURES, i),
         book::get(book, CLOSINGS, i),
         e,
     )
@@ -114,8 +114,8 @@ fn row_slot(book: &[u8], i: usize) -> usize
     if book::get(book, NUMBERS, i) == 0 {
         return 1024;
     }
-    let object = book::get(book, OBJECTS, i);
-    if book::get(book, KINDS, i) == 7 {
+    let object = book::get(book, BASKETS_OR_EXPOSURES, i);
+    if book::get(book, REQUEST_KINDS, i) == 7 {
         if 64 <= object {
             return 1024;
         }
@@ -136,7 +136,7 @@ fn is_any_empty(book: &[u8]) -> bool
     let mut e: usize = 0;
     while e < 64 {
         if book::get(book, IN_USE, e) == 1 {
-            if book::get(book, EXPOSURES, e) == 0 {
+            if book::get(book, EXPOSURE_AMOUNTS, e) == 0 {
                 return true;
             }
         }
@@ -170,7 +170,7 @@ fn is_idle(book: &[u8], marks: &[u8; 1025], e: usize) -> bool
     if book::get(book, IN_USE, e) != 1 {
         return false;
     }
-    if book::get(book, EXPOSURES, e) != 0 {
+    if book::get(book, EXPOSURE_AMOUNTS, e) != 0 {
         return false;
     }
     let slot = exposure_search::slot_of(book, e);

@@ -7,11 +7,10 @@ use Prim.Native.Nat.{ℕ, _≤_, _<_}
 use native.Mathlib.Omega.{arith}
 use lib.Dec.{eqb}
 use borrow.Author.Tests.{eqb-true, eq-eqb, ne-eqb}
-use Rattle.book.specs.Layout.{inUse, exposureClosings, exposures}
+use Rattle.book.specs.Layout.{inUse, exposureClosings, exposureAmounts}
 use Rattle.book.specs.State.{State}
 use Rattle.rules.specs.DayChange.{onEach, isReached, isExposureClosed, exposureClosed, exposuresClosed}
-use Rattle.rules.specs.Sound.{holding}
-use Rattle.rules.specs.Stock.{positionOf, giveBack}
+use Rattle.rules.specs.Stock.{positionOf, giveBack, holding}
 use Rattle.facts.proofs.Keeps.{Good}
 use Rattle.facts.proofs.Stock.{position-at}
 use Rattle.facts.proofs.Truth.{split}
@@ -67,20 +66,20 @@ module _ (s : State) (g : Good s) (day n : ℕ) (few : n ≤ 64) where
 
 -- the amounts
 module _ (s : State) (day e : ℕ) where
-  only-own-amount : (t : State) (d : ℕ) → (e ≡ d → ⊥) → exposureClosed t d exposures e ≡ t exposures e
+  only-own-amount : (t : State) (d : ℕ) → (e ≡ d → ⊥) → exposureClosed t d exposureAmounts e ≡ t exposureAmounts e
   only-own-amount t d n = rw (ne-eqb e d n)
 
-  pub amount-ahead : (n : ℕ) → n ≤ e → onEach (isExposureClosed s day) exposureClosed n s exposures e ≡ s exposures e
-  amount-ahead n l = place-ahead (isExposureClosed s day) exposureClosed s exposures e only-own-amount n l
+  pub amount-ahead : (n : ℕ) → n ≤ e → onEach (isExposureClosed s day) exposureClosed n s exposureAmounts e ≡ s exposureAmounts e
+  amount-ahead n l = place-ahead (isExposureClosed s day) exposureClosed s exposureAmounts e only-own-amount n l
 
-  pub amount-passed : (n : ℕ) → e < n → onEach (isExposureClosed s day) exposureClosed n s exposures e ≡ cond (isExposureClosed s day e) 0 (s exposures e)
-  amount-passed n l = rw (eq-eqb e e refl) at (place-passed (isExposureClosed s day) exposureClosed s exposures e only-own-amount n l)
+  pub amount-passed : (n : ℕ) → e < n → onEach (isExposureClosed s day) exposureClosed n s exposureAmounts e ≡ cond (isExposureClosed s day e) 0 (s exposureAmounts e)
+  amount-passed n l = rw (eq-eqb e e refl) at (place-passed (isExposureClosed s day) exposureClosed s exposureAmounts e only-own-amount n l)
 
 module _ (s : State) (day : ℕ) where
   pub exposures-closed : Good s → Closing s (exposuresClosed s day)
   unfolding exposuresClosed
   exposures-closed g = closing-turned s g day 64 (omega arith)
 
-  pub exposures-closed-amount : (e : ℕ) → e < 64 → exposuresClosed s day exposures e ≡ cond (isExposureClosed s day e) 0 (s exposures e)
+  pub exposures-closed-amount : (e : ℕ) → e < 64 → exposuresClosed s day exposureAmounts e ≡ cond (isExposureClosed s day e) 0 (s exposureAmounts e)
   unfolding exposuresClosed
   exposures-closed-amount e l = amount-passed s day e 64 l

@@ -11,11 +11,12 @@ use borrow.Author.Tests.{eqb-true, eq-eqb, le-ltb, not-true}
 use Rattle.laws.specs.Search.{all}
 use Rattle.laws.proofs.Cases.{either, clash, or-right}
 use Rattle.laws.proofs.Sum.{sum-same}
-use Rattle.book.specs.Layout.{kinds, givers, takers, objects, closings, inUse, exposureGivers, exposureTakers, exposureBaskets, exposureClosings, exposures, positions}
+use Rattle.book.specs.Layout.{requestKinds, givers, takers, basketsOrExposures, closings, inUse, exposureGivers, exposureTakers, exposureBaskets, exposureClosings, exposureAmounts, positions}
 use Rattle.book.specs.State.{State}
 use Rattle.rules.specs.DayChange.{onEach, belongs, isIdle, exposureFreed, exposuresFreed}
 use Rattle.rules.specs.Requests.{isUsed, isFop, isReturn, isPaired, hasKey, exposureOfFop}
-use Rattle.rules.specs.Sound.{soundKind, soundPaired, soundRow, soundExposure, otherKey, distinctKey, soundPosition, positionFrom, holding}
+use Rattle.rules.specs.Stock.{positionFrom, holding}
+use Rattle.rules.specs.ByRow.{soundKind, soundPaired, soundRow, soundExposure, otherKey, distinctKey, soundPosition}
 use Rattle.facts.proofs.Facts.{Sound, all-of, below}
 use Rattle.facts.proofs.Keeps.{Good}
 use Rattle.facts.proofs.Rows.{Kind, fop, return, used-fields, no-exposure-sound, position-facts}
@@ -42,14 +43,14 @@ exposures-turned s n = turns-remade (among freedTables) (λ row f. 0) (isIdle s)
 
 -- what idle says
 module _ (s : State) (e : ℕ) (idle : isIdle s e ≡ true) where
-  clauses : Each (eqb (s inUse e) 1 ∷ eqb (s exposures e) 0 ∷ all (λ i. not (belongs s e i)) 256 0 ∷ [])
-  clauses = split (eqb (s inUse e) 1 ∷ eqb (s exposures e) 0 ∷ all (λ i. not (belongs s e i)) 256 0 ∷ []) idle
+  clauses : Each (eqb (s inUse e) 1 ∷ eqb (s exposureAmounts e) 0 ∷ all (λ i. not (belongs s e i)) 256 0 ∷ [])
+  clauses = split (eqb (s inUse e) 1 ∷ eqb (s exposureAmounts e) 0 ∷ all (λ i. not (belongs s e i)) 256 0 ∷ []) idle
 
   pub idle-used : s inUse e ≡ 1
   idle-used = eqb-true (s inUse e) 1 (clauses .0)
 
-  pub idle-amount : s exposures e ≡ 0
-  idle-amount = eqb-true (s exposures e) 0 (clauses .1 .0)
+  pub idle-amount : s exposureAmounts e ≡ 0
+  idle-amount = eqb-true (s exposureAmounts e) 0 (clauses .1 .0)
 
   pub idle-row : (i : ℕ) → i < 256 → belongs s e i ≡ false
   idle-row i l = not-true (belongs s e i) (below (λ i. not (belongs s e i)) 256 (clauses .1 .1) i l)
@@ -60,18 +61,18 @@ module _ (s : State) (e : ℕ) (idle : isIdle s e ≡ true) where
 
 module _ (s : State) (h : Sound s) (done : ℕ → Bool) (only : (e : ℕ) → done e ≡ true → isIdle s e ≡ true) where
   -- a return's exposure is not freed
-  return-kept : (i : ℕ) → i < 256 → isUsed s i ≡ true → isReturn s i ≡ true → done (s objects i) ≡ false
+  return-kept : (i : ℕ) → i < 256 → isUsed s i ≡ true → isReturn s i ≡ true → done (s basketsOrExposures i) ≡ false
   return-kept i l u r =
-      let o = s objects i in
+      let o = s basketsOrExposures i in
       let own : belongs s o i ≡ true = rw (u, r, eq-eqb o o refl) in
       ⊎-elim (λ (e : done o ≡ true). clash own (idle-row s o (only o e) i l)) (λ e. e) (either (done o))
 
   -- a paired FOP finds the same exposures by its key
   key-kept : (i e : ℕ) → i < 256 → isUsed s i ≡ true → isFop s i ≡ true → isPaired s i ≡ true
-      → hasKey (freed s done) (s givers i) (s takers i) (s objects i) (s closings i) e ≡ hasKey s (s givers i) (s takers i) (s objects i) (s closings i) e
+      → hasKey (freed s done) (s givers i) (s takers i) (s basketsOrExposures i) (s closings i) e ≡ hasKey s (s givers i) (s takers i) (s basketsOrExposures i) (s closings i) e
   key-kept i e l u f p =
       ⊎-elim
-      (λ (d : done e ≡ true). rw d (sym (or-right (isReturn s i && eqb (s objects i) e) (hasKey s (s givers i) (s takers i) (s objects i) (s closings i) e) (rw (u, f, p) at (idle-row s e (only e d) i l)))))
+      (λ (d : done e ≡ true). rw d (sym (or-right (isReturn s i && eqb (s basketsOrExposures i) e) (hasKey s (s givers i) (s takers i) (s basketsOrExposures i) (s closings i) e) (rw (u, f, p) at (idle-row s e (only e d) i l)))))
       (λ (d : done e ≡ false). rw d)
       (either (done e))
 
@@ -88,8 +89,8 @@ module _ (s : State) (h : Sound s) (done : ℕ → Bool) (only : (e : ℕ) → d
   fop-or-return i l u r = go (used-fields s i (h .row i l) u .kind)
     where
       go : Kind s i → isFop s i ≡ true
-      go (fop k f) = eq-eqb (s kinds i) 6 k
-      go (return k f) = clash (eq-eqb (s kinds i) 7 k) r
+      go (fop k f) = eq-eqb (s requestKinds i) 6 k
+      go (return k f) = clash (eq-eqb (s requestKinds i) 7 k) r
 
   paired-kept : (i : ℕ) → i < 256 → isUsed s i ≡ true → isPaired s i ≡ true → soundPaired (freed s done) i ≡ soundPaired s i
   unfolding all
@@ -99,7 +100,7 @@ module _ (s : State) (h : Sound s) (done : ℕ → Bool) (only : (e : ℕ) → d
       (λ (r : isReturn s i ≡ false).
       let f = fop-or-return i l u r in
       let same : exposureOfFop (freed s done) i ≡ exposureOfFop s i =
-      least-same (hasKey (freed s done) (s givers i) (s takers i) (s objects i) (s closings i)) (hasKey s (s givers i) (s takers i) (s objects i) (s closings i)) 64 0 (λ e a b. key-kept i e l u f p) in
+      least-same (hasKey (freed s done) (s givers i) (s takers i) (s basketsOrExposures i) (s closings i)) (hasKey s (s givers i) (s takers i) (s basketsOrExposures i) (s closings i)) 64 0 (λ e a b. key-kept i e l u f p) in
       rw same)
       (either (isReturn s i))
 
@@ -209,6 +210,6 @@ module _ (s : State) (g : Good s) where
 
 module _ (s : State) where
   -- the amounts stay
-  pub exposures-freed-amount : (e : ℕ) → exposuresFreed s exposures e ≡ s exposures e
+  pub exposures-freed-amount : (e : ℕ) → exposuresFreed s exposureAmounts e ≡ s exposureAmounts e
   unfolding exposuresFreed
   exposures-freed-amount e = rw (exposures-turned s 64)

@@ -7,13 +7,13 @@ use native.Mathlib.Decide.{decLt}
 use native.Mathlib.Omega.{arith}
 use lib.Dec.{eqb}
 use Rattle.calendar.specs.Target.{nextOpenDay}
-use Rattle.book.specs.Layout.{today, inUse, exposureClosings, exposures}
+use Rattle.book.specs.Layout.{today, inUse, exposureClosings, exposureAmounts}
 use Rattle.book.specs.State.{State, put}
 use Rattle.rules.specs.Codes.{nextDayRules}
 use Rattle.rules.specs.DayChange.{rowsDropped, profilesChanged, isExposureClosed, exposuresClosed, closingEvents, dayChanged, nextDay}
 use Rattle.facts.proofs.Sums.{Sums, allNoted}
 use Rattle.rules.specs.Outcome.{lowest}
-use Rattle.rules.specs.Sound.{holding}
+use Rattle.rules.specs.Stock.{holding}
 use Rattle.facts.proofs.Keeps.{Good, Amounts, Keeps}
 use Rattle.day_laws.proofs.Closed.{Closing, exposures-closed, exposures-closed-amount}
 use Rattle.day_laws.proofs.Freed.{exposures-freed-good, exposures-freed-holding, exposures-freed-amount}
@@ -67,10 +67,10 @@ module _ (s : State) (g : Good s) (h : lowest (nextDayRules s) ≡ 0) where
   renewed-used e = renewed-beside inUse e refl refl refl
 
   -- an exposure has its amount unless it was closed
-  pub day-changed-amount : (e : ℕ) → e < 64 → dayChanged s exposures e ≡ cond (isExposureClosed s day e) 0 (s exposures e)
+  pub day-changed-amount : (e : ℕ) → e < 64 → dayChanged s exposureAmounts e ≡ cond (isExposureClosed s day e) 0 (s exposureAmounts e)
   unfolding dayChanged
   day-changed-amount e l =
-      exposures-freed-amount closed e ∙ exposures-closed-amount renewed day e l ∙ rw (renewed-used e, renewed-beside exposureClosings e refl refl refl, renewed-beside exposures e refl refl refl)
+      exposures-freed-amount closed e ∙ exposures-closed-amount renewed day e l ∙ rw (renewed-used e, renewed-beside exposureClosings e refl refl refl, renewed-beside exposureAmounts e refl refl refl)
 
   -- what an exposure has left and what was closed of it
   parts : (b : Bool) (x : ℕ) → cond b x 0 + cond b 0 x ≡ x
@@ -83,8 +83,8 @@ module _ (s : State) (g : Good s) (h : lowest (nextDayRules s) ≡ 0) where
       let settled = told-settled s day p 64 e in
       let returned = told-returned s day p 64 e in
       elim (decLt e 64) [
-        | yes l ↦ omega (arith, told-passed s day p e 64 l, day-changed-amount e l, parts (isExposureClosed s day e) (s exposures e), a e)
-        | no l ↦ omega (arith, told-ahead s day p e 64 (omega arith), day-changed-good .fits .blank exposures e (omega arith), g .fits .blank exposures e (omega arith), a e)
+        | yes l ↦ omega (arith, told-passed s day p e 64 l, day-changed-amount e l, parts (isExposureClosed s day e) (s exposureAmounts e), a e)
+        | no l ↦ omega (arith, told-ahead s day p e 64 (omega arith), day-changed-good .fits .blank exposureAmounts e (omega arith), g .fits .blank exposureAmounts e (omega arith), a e)
       ]
 
 -- an accepted next day

@@ -10,7 +10,7 @@ use native.Mathlib.Nat.{le-refl}
 use native.Mathlib.Omega.{arith}
 use borrow.Author.Tests.{eq-eqb, ne-eqb}
 use Rattle.laws.proofs.Cases.{either}
-use Rattle.book.specs.Layout.{exposures}
+use Rattle.book.specs.Layout.{exposureAmounts}
 use Rattle.book.specs.State.{State}
 use Rattle.rules.specs.DayChange.{isExposureClosed, closingEvents}
 use Rattle.facts.proofs.Sums.{Sums, noted, allNoted, noted-append, noted-one}
@@ -21,9 +21,9 @@ module _ (s : State) (day : ℕ) (p : Sums) where
   abbrev told : ℕ → Sums
   told n = allNoted p (closingEvents s day n)
 
-  told-closed : (n : ℕ) → isExposureClosed s day n ≡ true → told (suc n) ≡ noted (told n) (closed n (s exposures n))
+  told-closed : (n : ℕ) → isExposureClosed s day n ≡ true → told (suc n) ≡ noted (told n) (closed n (s exposureAmounts n))
   unfolding closingEvents allNoted
-  told-closed n e = rw e (noted-one p (closingEvents s day n) (closed n (s exposures n)))
+  told-closed n e = rw e (noted-one p (closingEvents s day n) (closed n (s exposureAmounts n)))
 
   told-left : (n : ℕ) → isExposureClosed s day n ≡ false → told (suc n) ≡ told n
   unfolding closingEvents allNoted
@@ -54,14 +54,14 @@ module _ (s : State) (day : ℕ) (p : Sums) where
     told-ahead zero l = refl
     told-ahead (suc n) l = other-told n (omega arith) ∙ told-ahead n (omega arith)
 
-    own-told : told (suc e) .closes e ≡ p .closes e + cond (isExposureClosed s day e) (s exposures e) 0
+    own-told : told (suc e) .closes e ≡ p .closes e + cond (isExposureClosed s day e) (s exposureAmounts e) 0
     own-told =
         ⊎-elim
         (λ (c : isExposureClosed s day e ≡ true). rw (told-closed e c, c, eq-eqb e e refl, told-ahead e (le-refl e)))
         (λ (c : isExposureClosed s day e ≡ false). rw (told-left e c, c) (omega (arith, told-ahead e (le-refl e))))
         (either (isExposureClosed s day e))
 
-    pub told-passed : (n : ℕ) → e < n → told n .closes e ≡ p .closes e + cond (isExposureClosed s day e) (s exposures e) 0
+    pub told-passed : (n : ℕ) → e < n → told n .closes e ≡ p .closes e + cond (isExposureClosed s day e) (s exposureAmounts e) 0
     told-passed zero l = absurd (omega arith)
     told-passed (suc n) l =
         let before = told-passed n in

@@ -18,8 +18,8 @@ use Rattle.book.proofs.Images.{put-fits}
 use Rattle.rules.specs.Codes.{nextDayRules}
 use Rattle.rules.specs.DayChange.{onEach, changeTakesEffect, profilesChanged}
 use Rattle.rules.specs.Outcome.{lowest}
-use Rattle.rules.specs.Sound.{soundProfile, soundParticipant, soundRow, soundExposure, holding}
-use Rattle.rules.specs.Stock.{participantSetUp}
+use Rattle.rules.specs.ByRow.{soundProfile, soundParticipant, soundRow, soundExposure}
+use Rattle.rules.specs.Stock.{participantSetUp, holding}
 use Rattle.facts.proofs.Facts.{Sound}
 use Rattle.facts.proofs.Keeps.{Good}
 use Rattle.facts.proofs.Rows.{head-facts, facts-head}

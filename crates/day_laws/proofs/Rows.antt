@@ -10,11 +10,12 @@ use lib.Dec.{eqb, ltb}
 use borrow.Author.Tests.{eqb-false, ne-eqb, lt-ltb, le-ltb, not-true}
 use Rattle.laws.specs.Search.{all}
 use Rattle.laws.proofs.Cases.{either}
-use Rattle.book.specs.Layout.{numbers, kinds, sides, givers, takers, objects, amounts, settlements, closings, references, settledAmounts, partners, pairPartials, cancels, ends}
+use Rattle.book.specs.Layout.{numbers, requestKinds, sides, givers, takers, basketsOrExposures, amounts, settlements, closings, references, settledAmounts, partners, pairPartials, cancels, ends}
 use Rattle.book.specs.State.{State}
 use Rattle.rules.specs.DayChange.{onEach, isDropped, blanked, rowsDropped}
 use Rattle.rules.specs.Requests.{isUsed, isPaired, partnerOf}
-use Rattle.rules.specs.Sound.{soundRow, differs, distinctNumber, holding}
+use Rattle.rules.specs.Stock.{holding}
+use Rattle.rules.specs.ByRow.{soundRow, differs, distinctNumber}
 use Rattle.facts.proofs.Facts.{Sound, all-of, below}
 use Rattle.facts.proofs.Keeps.{Good}
 use Rattle.facts.proofs.Rows.{Pair, unused-blank, used-paired}
@@ -23,7 +24,7 @@ use Rattle.day_laws.proofs.Remade.{remade, cleared-fits, among, stored-
 -- the tables of a request, the last first
 abbrev pub requestTables : List ℕ
 requestTables =
-    ends ∷ cancels ∷ pairPartials ∷ partners ∷ settledAmounts ∷ references ∷ closings ∷ settlements ∷ amounts ∷ objects ∷ takers ∷ givers ∷ sides ∷ kinds ∷ numbers ∷ []
+    ends ∷ cancels ∷ pairPartials ∷ partners ∷ settledAmounts ∷ references ∷ closings ∷ settlements ∷ amounts ∷ basketsOrExposures ∷ takers ∷ givers ∷ sides ∷ requestKinds ∷ numbers ∷ []
 
 -- the state without the rows that are done
 abbrev pub without : State → (ℕ → Bool) → State

@@ -5,7 +5,7 @@ use mathlib.Core.Bool.{Bool, true, false, _||_}
 use Prim.Native.Nat.{ℕ, _≤_, _<_}
 use lib.Dec.{leb}
 use borrow.Author.Tests.{eq-eqb, ne-eqb, le-leb, lt-leb}
-use Rattle.book.specs.Layout.{today, numbers, kinds, objects, amounts, settlements, closings, settledAmounts, partners, ends, exposureClosings}
+use Rattle.book.specs.Layout.{today, numbers, requestKinds, basketsOrExposures, amounts, settlements, closings, settledAmounts, partners, ends, exposureClosings}
 use Rattle.book.specs.State.{State}
 use Rattle.rules.specs.DayChange.{isReached, isDone, isClosed, isDropped}
 
@@ -39,8 +39,8 @@ module _ (s : State) (i : ℕ) {a d : ℕ} (aq : a ≡ s amounts i) (dq : d ≡ 
       by-settlement z yq tq = rw (← aq, ← dq, lt-leb a d part, ← xq, ne-eqb x 1 going, ← pq, eq-eqb p 0 z, ← yq, ← tq)
 
 -- a row whose closing date is reached
-module _ (s : State) (day i : ℕ) {k : ℕ} (kq : k ≡ s kinds i) where
-  pub by-exposure : {o c : ℕ} {b : Bool} → k ≡ 7 → o ≡ s objects i → c ≡ s exposureClosings o → b ≡ isReached day c → b ≡ isClosed s day i
+module _ (s : State) (day i : ℕ) {k : ℕ} (kq : k ≡ s requestKinds i) where
+  pub by-exposure : {o c : ℕ} {b : Bool} → k ≡ 7 → o ≡ s basketsOrExposures i → c ≡ s exposureClosings o → b ≡ isReached day c → b ≡ isClosed s day i
   by-exposure e oq cq bq = rw (← kq, e, ← oq, ← cq) bq
 
   pub neither-kind : (k ≡ 7 → ⊥) → (k ≡ 6 → ⊥) → false ≡ isClosed s day i

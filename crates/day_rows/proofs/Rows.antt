@@ -9,7 +9,7 @@ use native.Mathlib.Omega.{arith}
 use borrow.Author.Tests.{ne-eqb}
 use Rattle.laws.specs.Filled.{filled}
 use Rattle.laws.proofs.Cases.{either}
-use Rattle.book.specs.Layout.{numbers, kinds, objects}
+use Rattle.book.specs.Layout.{numbers, requestKinds, basketsOrExposures}
 use Rattle.book.specs.State.{State, put}
 use Rattle.rules.specs.DayChange.{isDropped, blanked, onEach}
 use Rattle.rules.specs.Requests.{isUsed}
@@ -49,7 +49,7 @@ later-named test s i r = each-keeps test blanked s (λ t. ReturnNamed t i) i (λ
 
 -- a return of a sound book names an exposure row
 module _ (s : State) (f : Sound s) (i : ℕ) (l : i < 256) where
-  kind-named : Kind s i → s kinds i ≡ 7 → s objects i < 64
+  kind-named : Kind s i → s requestKinds i ≡ 7 → s basketsOrExposures i < 64
   kind-named (fop e x) k = absurd (omega arith)
   kind-named (return e x) k = x .exposure-below
 
@@ -57,6 +57,6 @@ module _ (s : State) (f : Sound s) (i : ℕ) (l : i < 256) where
   sound-named = record {
     named = λ k. ⊎-elim
         (λ u. kind-named (used-fields s i (f .row i l) u .kind) k)
-        (λ u. absurd (omega (arith, unused-blank s i (f .row i l) u kinds (omega arith) (omega arith))))
+        (λ u. absurd (omega (arith, unused-blank s i (f .row i l) u requestKinds (omega arith) (omega arith))))
         (either (isUsed s i));
   }

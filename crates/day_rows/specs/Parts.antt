@@ -3,7 +3,7 @@
 use mathlib.Core.Path.{_≡_}
 use mathlib.Core.Bool.{Bool, cond}
 use Prim.Native.Nat.{ℕ, zero, suc, _+_, _<_}
-use Rattle.book.specs.Layout.{today, kinds, objects}
+use Rattle.book.specs.Layout.{today, requestKinds, basketsOrExposures}
 use Rattle.book.specs.State.{State, put}
 use Rattle.rules.specs.DayChange.{isDropped}
 
@@ -26,4 +26,4 @@ IsToday s day = day ≡ s today 0
 
 -- a return names one of the 64 exposure rows
 pub record ReturnNamed (s : State) (i : ℕ) : Type 0 where
-  pub named : s kinds i ≡ 7 → s objects i < 64
+  pub named : s requestKinds i ≡ 7 → s basketsOrExposures i < 64

@@ -12,13 +12,13 @@ ghost use Rattle.rules.specs.Sound.{sound};
 ghost use Rattle.row_tests.specs.Rows.{InRows};
 ghost use Rattle.day_rows.specs.Parts.{tried, dropsOn, cleared, IsToday, ReturnNamed};
 use book::layout::AMOUNTS;
+use book::layout::BASKETS_OR_EXPOSURES;
 use book::layout::CLOSINGS;
 use book::layout::ENDS;
 use book::layout::EXPOSURE_CLOSINGS;
-use book::layout::KINDS;
 use book::layout::NUMBERS;
-use book::layout::OBJECTS;
 use book::layout::PARTNERS;
+use book::layout::REQUEST_KINDS;
 use book::layout::SETTLED_AMOUNTS;
 use book::layout::SETTLEMENTS;
 use book::layout::TODAY;
@@ -55,9 +55,9 @@ fn is_closed(book: &[u8], day: u64, i: usize) -> bool
     requires { ⌜ (length (now book) ≡ bookLength) × (i < 256) × ReturnNamed (state (now book)) i ⌝ }
     ensures { λ r. ⌜ r ≡ isClosed (state (now (book .entry))) day i ⌝ }
 {
-    let kind = book::get(book, KINDS, i);
+    let kind = book::get(book, REQUEST_KINDS, i);
     if kind == 7 {
-        let e = book::get(book, OBJECTS, i) as usize;
+        let e = book::get(book, BASKETS_OR_EXPOSURES, i) as usize;
         return is_reached(day, book::get(book, EXPOSURE_CLOSINGS, e));
     }
     if kind != 6 {

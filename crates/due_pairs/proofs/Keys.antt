@@ -12,7 +12,7 @@ use lib.Seq.{take-suc, take-suc-set}
 use borrow.Author.Tests.{le-leb, lt-leb, lt-ltb, le-ltb, ltb-false, not-true, not-false}
 use Rattle.laws.proofs.Cases.{and-left, or-left}
 use Rattle.calendar.specs.Target.{lastDay, openDay}
-use Rattle.book.specs.Layout.{kinds, settlements}
+use Rattle.book.specs.Layout.{requestKinds, settlements}
 use Rattle.book.specs.State.{State}
 use Rattle.facts.proofs.Keeps.{Good}
 use Rattle.facts.proofs.Rows.{head-facts, used-fields}
@@ -61,7 +61,7 @@ order-small {s} i g l u =
 
 module _ (s : State) (kind i : ℕ) where
   due-pair : (last : ℕ) → isDue s kind last i ≡ true → duePair s i ≡ true
-  due-pair last h = and-left (duePair s i) (eqb (s kinds i) kind && ltb last (orderOf s i)) (sym (due-by s kind last i) ∙ h)
+  due-pair last h = and-left (duePair s i) (eqb (s requestKinds i) kind && ltb last (orderOf s i)) (sym (due-by s kind last i) ∙ h)
 
   pub due-small : Good s → i < 256 → {d : Bool} → d ≡ isDue s kind 0 i → not d ≡ false → {order : ℕ} → order ≡ orderOf s i → order < 72057594037927935
   due-small g l {d} dq h oq = rw oq (order-small i g l (due-used s i (due-pair 0 (sym dq ∙ not-false d h))))

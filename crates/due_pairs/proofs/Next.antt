@@ -12,7 +12,7 @@ use lib.ListN.{take}
 use borrow.Author.Tests.{eq-eqb, ne-eqb, lt-ltb, ltb-true, ltb-false}
 use Rattle.laws.specs.Search.{leastBy}
 use Rattle.laws.proofs.Cases.{either, and-left}
-use Rattle.book.specs.Layout.{kinds}
+use Rattle.book.specs.Layout.{requestKinds}
 use Rattle.book.specs.State.{State}
 use Rattle.facts.proofs.Keeps.{Good}
 use Rattle.facts.proofs.Searches.{found-by}
@@ -117,7 +117,7 @@ due-narrowed : (s : State) (kind last i : ℕ) → isDue s kind last i ≡ (isDu
 due-narrowed s kind last i =
     let o = orderOf s i in
     rw (due-by s kind last i, due-by s kind 0 i)
-    (narrowed (duePair s i) (eqb (s kinds i) kind) (ltb 0 o) (ltb last o) (λ h. let after = ltb-true last o h in lt-ltb 0 o (omega arith)))
+    (narrowed (duePair s i) (eqb (s requestKinds i) kind) (ltb 0 o) (ltb last o) (λ h. let after = ltb-true last o h in lt-ltb 0 o (omega arith)))
 
 -- the least of the keys collected is that of the next pair
 module _ {s : State} (kind last : ℕ) (g : Good s) {keys : List ℕ} {n : ℕ} (c : Collected s kind 256 keys n) {r : ℕ} (q : r ≡ leastFrom ((last + 1) * 256) noKey (take n keys)) where

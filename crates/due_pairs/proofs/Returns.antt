@@ -8,7 +8,7 @@ use native.Mathlib.Omega.{arith}
 use lib.Dec.{eqb, leb, ltb}
 use borrow.Author.Tests.{eq-eqb, ne-eqb, eqb-false, le-leb, lt-leb, lt-ltb, le-ltb, not-true}
 use Rattle.laws.proofs.Cases.{either, and-left}
-use Rattle.book.specs.Layout.{today, numbers, kinds, amounts, settlements, settledAmounts, partners, ends}
+use Rattle.book.specs.Layout.{today, numbers, requestKinds, amounts, settlements, settledAmounts, partners, ends}
 use Rattle.book.specs.State.{State}
 use Rattle.rules.specs.Requests.{isUsed, isPaired, isLive, partnerOf}
 use Rattle.rules.specs.Settlement.{orderOf, isDue}
@@ -77,9 +77,9 @@ regroup true true true false e f = refl
 regroup true true true true e f = refl
 
 module _ (s : State) (kind last i : ℕ) where
-  pub due-by : isDue s kind last i ≡ (duePair s i && (eqb (s kinds i) kind && ltb last (orderOf s i)))
+  pub due-by : isDue s kind last i ≡ (duePair s i && (eqb (s requestKinds i) kind && ltb last (orderOf s i)))
   unfolding duePair
-  due-by = regroup (isLive s i) (isPaired s i) (eqb (s kinds i) kind) (ltb (s numbers (partnerOf s i)) (s numbers i)) (leb (s settlements i) (s today 0)) (ltb last (orderOf s i))
+  due-by = regroup (isLive s i) (isPaired s i) (eqb (s requestKinds i) kind) (ltb (s numbers (partnerOf s i)) (s numbers i)) (leb (s settlements i) (s today 0)) (ltb last (orderOf s i))
 
 -- a row that is due has a number
 pub due-used : (s : State) (i : ℕ) → duePair s i ≡ true → isUsed s i ≡ true
@@ -90,13 +90,13 @@ pub used-order : (s : State) (i : ℕ) → isUsed s i ≡ true → 0 < orderOf s
 used-order s i h = let n = eqb-false (s numbers i) 0 (not-true (eqb (s numbers i) 0) h) in omega arith
 
 -- the ways out of `is_due`
-module _ (s : State) (kind i : ℕ) {k : ℕ} (kq : k ≡ s kinds i) where
+module _ (s : State) (kind i : ℕ) {k : ℕ} (kq : k ≡ s requestKinds i) where
   pub other-kind : (k ≡ kind → ⊥) → false ≡ isDue s kind 0 i
-  other-kind h = rw (due-by s kind 0 i, ne-eqb (s kinds i) kind (λ e. h (kq ∙ e)), and-false)
+  other-kind h = rw (due-by s kind 0 i, ne-eqb (s requestKinds i) kind (λ e. h (kq ∙ e)), and-false)
 
   pub same-kind : k ≡ kind → {d : Bool} → d ≡ duePair s i → d ≡ isDue s kind 0 i
   same-kind e {d} dq =
       ⊎-elim
-      (λ (h : duePair s i ≡ true). rw (due-by s kind 0 i, h, eq-eqb (s kinds i) kind (sym kq ∙ e), lt-ltb 0 (orderOf s i) (used-order s i (due-used s i h))) (dq ∙ h))
+      (λ (h : duePair s i ≡ true). rw (due-by s kind 0 i, h, eq-eqb (s requestKinds i) kind (sym kq ∙ e), lt-ltb 0 (orderOf s i) (used-order s i (due-used s i h))) (dq ∙ h))
       (λ (h : duePair s i ≡ false). rw (due-by s kind 0 i, h) (dq ∙ h))
       (either (duePair s i))

@@ -9,9 +9,9 @@ ghost use Rattle.rules.specs.Settlement.{orderOf, isDue};
 ghost use Rattle.due_pairs.specs.Due.{duePair, noKey, Collected, lesserFrom, leastFrom};
 use book::layout::AMOUNTS;
 use book::layout::ENDS;
-use book::layout::KINDS;
 use book::layout::NUMBERS;
 use book::layout::PARTNERS;
+use book::layout::REQUEST_KINDS;
 use book::layout::SETTLED_AMOUNTS;
 use book::layout::SETTLEMENTS;
 use book::layout::TODAY;
@@ -57,7 +57,7 @@ fn is_due(book: &[u8], kind: u64, i: usize) -> bool
     requires { ⌜ (length (now book) ≡ bookLength) × Good (state (now book)) × (i < 256) ⌝ }
     ensures { λ r. ⌜ r ≡ isDue (state (now (book .entry))) kind 0 i ⌝ }
 {
-    if book::get(book, KINDS, i) != kind {
+    if book::get(book, REQUEST_KINDS, i) != kind {
         return false;
     }
     is_due_pair(book, i)

@@ -10,7 +10,7 @@ use lib.ListN.{getD}
 use Rattle.laws.specs.Filled.{filled}
 use Rattle.laws.proofs.Filled.{filled-at}
 use Rattle.baskets.specs.Fresh.{FreshAges, EligibilityFor}
-use Rattle.book.specs.Layout.{today, lots, prices, haircuts, quotes, maps, ages, exposureBaskets}
+use Rattle.book.specs.Layout.{today, lots, prices, haircuts, quoteDays, maps, greatestAges, exposureBaskets}
 use Rattle.book.specs.State.{State, columnsOf}
 use Rattle.rules.specs.Stock.{basketOf}
 use Rattle.facts.proofs.Facts.{Sound}
@@ -26,7 +26,7 @@ sound-aged s f = record { each = age-le s f }
 pub aged-first : (most : ℕ) (s : State) → Aged most 0 s
 aged-first most s = record { each = λ b l. absurd (omega arith) }
 
-pub aged-next : {most n : ℕ} {s : State} → Aged most n s → {more a : ℕ} → a ≡ s ages n → most ≤ more → a ≤ more → Aged more (n + 1) s
+pub aged-next : {most n : ℕ} {s : State} → Aged most n s → {more a : ℕ} → a ≡ s greatestAges n → most ≤ more → a ≤ more → Aged more (n + 1) s
 aged-next {most} {n} {s} h {more} q l m = record {
   each = λ b k. elim (ℕ-discrete b n) [
     | yes e ↦ rw e (omega arith)
@@ -36,11 +36,11 @@ aged-next {most} {n} {s} h {more} q l m = record {
 
 -- the days of all ages, looked up for each basket
 pub baskets-fresh : {s : State} {columns days since : List ℕ} {most day : ℕ} → columns ≡ columnsOf s → day ≡ s today 0 → Aged most 16 s → FreshAges columns day most days
-    → since ≡ filled (λ b. getD days (s ages b) 0) 16 16 → FreshBaskets s since
+    → since ≡ filled (λ b. getD days (s greatestAges b) 0) 16 16 → FreshBaskets s since
 baskets-fresh {s} {columns} {days} {since} {most} {day} cq dq a f q = record {
   each = λ b l.
-      let found : getD since b 0 ≡ getD days (s ages b) 0 = rw q (filled-at (λ b. getD days (s ages b) 0) 16 16 b (le-refl 16) l) in
-      rw (found, ← cq, ← dq) (f .each (s ages b) (a .each b l));
+      let found : getD since b 0 ≡ getD days (s greatestAges b) 0 = rw q (filled-at (λ b. getD days (s greatestAges b) 0) 16 16 b (le-refl 16) l) in
+      rw (found, ← cq, ← dq) (f .each (s greatestAges b) (a .each b l));
 }
 
 -- the day of an exposure's basket
@@ -59,7 +59,7 @@ pub same-then : {s t u : State} → SamePrices s t → SamePrices t u → SamePr
 same-then k l = record { columns = l .columns ∙ k .columns; day = l .day ∙ k .day; ages-kept = λ b. l .ages-kept b ∙ k .ages-kept b }
 
 -- table by table
-module _ (s t : State) (lot : (i : ℕ) → t lots i ≡ s lots i) (price : (i : ℕ) → t prices i ≡ s prices i) (haircut : (i : ℕ) → t haircuts i ≡ s haircuts i) (quote : (i : ℕ) → t quotes i ≡ s quotes i) where
+module _ (s t : State) (lot : (i : ℕ) → t lots i ≡ s lots i) (price : (i : ℕ) → t prices i ≡ s prices i) (haircut : (i : ℕ) → t haircuts i ≡ s haircuts i) (quote : (i : ℕ) → t quoteDays i ≡ s quoteDays i) where
   each : (q i : ℕ) → q < 4 → t (lots + q) i ≡ s (lots + q) i
   each zero i l = lot i
   each (suc zero) i l = price i
@@ -70,5 +70,5 @@ module _ (s t : State) (lot : (i : ℕ) → t lots i ≡ s lots i) (price : (i :
   pub columns-same : columnsOf t ≡ columnsOf s
   columns-same = filled-same (λ k. t (lots + k / 64) (k % 64)) (λ k. s (lots + k / 64) (k % 64)) 256 256 (λ k l. each (k / 64) (k % 64) (omega arith))
 
-  pub same-prices : t today 0 ≡ s today 0 → ((b : ℕ) → t ages b ≡ s ages b) → SamePrices s t
+  pub same-prices : t today 0 ≡ s today 0 → ((b : ℕ) → t greatestAges b ≡ s greatestAges b) → SamePrices s t
   same-prices d a = record { columns = columns-same; day = d; ages-kept = a }

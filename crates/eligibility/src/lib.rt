@@ -9,8 +9,8 @@ ghost use Rattle.rules.specs.Stock.{basketOf};
 ghost use Rattle.eligibility.specs.Fresh.{Aged, FreshBaskets};
 use baskets::Basket;
 use baskets::Eligibility;
-use book::layout::AGES;
 use book::layout::EXPOSURE_BASKETS;
+use book::layout::GREATEST_AGES;
 use book::layout::MAPS;
 use book::layout::TODAY;
 
@@ -22,7 +22,7 @@ pub fn basket_of(book: &[u8], e: usize) -> Basket
     let b = book::get(book, EXPOSURE_BASKETS, e) as usize;
     Basket {
         map: book::get(book, MAPS, b),
-        oldest: book::get(book, AGES, b),
+        oldest: book::get(book, GREATEST_AGES, b),
     }
 }
 
@@ -41,7 +41,7 @@ fn greatest_age(book: &[u8]) -> u64
     let mut most: u64 = 0;
     let mut b: usize = 0;
     while b < 16 {
-        most = larger(most, book::get(book, AGES, b));
+        most = larger(most, book::get(book, GREATEST_AGES, b));
         b += 1;
     }
     most
@@ -57,7 +57,7 @@ pub fn fresh_since(book: &[u8], columns: &[u64; 256]) -> [u64; 16]
     let mut since = [0u64; 16];
     let mut b: usize = 0;
     while b < 16 {
-        let age = book::get(book, AGES, b) as usize;
+        let age = book::get(book, GREATEST_AGES, b) as usize;
         since[b] = days[age];
         b += 1;
     }

@@ -18,7 +18,8 @@ use Rattle.rules.specs.Outcome.{lowest}
 use Rattle.rules.specs.Requesting.{entered, cancelled}
 use Rattle.rules.specs.Settlement.{settlement}
 use Rattle.rules.specs.SetUp.{opened, priced, enrolled, basketMade, deposited, withdrawn}
-use Rattle.rules.specs.Sound.{holding, sound}
+use Rattle.rules.specs.Sound.{sound}
+use Rattle.rules.specs.Stock.{holding}
 use Rattle.facts.proofs.Rules.{none-applies}
 use Rattle.accounts.specs.Accounts.{AccountRoom, AccountHolds}
 use Rattle.engine.specs.Entry.{Taken, Accepted}

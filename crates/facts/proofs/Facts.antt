@@ -8,15 +8,16 @@ use Prim.Native.Nat.{ℕ, zero, suc, _+_, _*_, _-_, _%_, _≤_, _<_}
 use native.Mathlib.Omega.{arith}
 use lib.Dec.{eqb, leb, ltb}
 use borrow.Author.Tests.{leb-true, le-leb, ltb-true, lt-ltb, eqb-true, eqb-false, eq-eqb, ne-eqb, not-true, not-false}
-use Rattle.laws.specs.Search.{all}
+use Rattle.laws.specs.Search.{all, between}
 use Rattle.laws.proofs.Cases.{either, clash, or-cases}
 use Rattle.laws.proofs.Least.{all-at}
 use Rattle.calendar.specs.Target.{openDay}
-use Rattle.book.specs.Layout.{today, tolerance, nextNumber, lots, modes, maps, numbers, kinds, sides, givers, takers, objects, amounts, settlements, closings, settledAmounts, partners, pairPartials, cancels, ends, inUse, exposureGivers, exposureTakers, exposureBaskets, exposureClosings, exposures, positions, spares}
+use Rattle.book.specs.Layout.{today, tolerance, nextNumber, lots, modes, maps, numbers, requestKinds, sides, givers, takers, basketsOrExposures, amounts, settlements, closings, settledAmounts, partners, pairPartials, cancels, ends, inUse, exposureGivers, exposureTakers, exposureBaskets, exposureClosings, exposureAmounts, positions, spares}
 use Rattle.book.specs.State.{State}
-use Rattle.rules.specs.Requests.{isUsed, isFop, isReturn, isPaired, partnerOf, exposureOfFop}
-use Rattle.rules.specs.Sound.{between, openOrNone, soundHead, soundSecurity, soundParticipant, soundBasket, soundParties, basketNamed, returnNames, soundFop, soundReturn, soundKind, soundMarks, soundFields, same, alike, blank, marksAlike, soundPair, soundPaired, soundUnpaired, blankRow, soundRow, distinctNumber, soundExposure, distinctKey, soundPosition, holding, soundHolding, soundPositions, soundHoldings, isSpare, soundSetUp, soundRequests, soundExposures, sound}
-use Rattle.rules.specs.Stock.{participantSetUp, securitySetUp, basketSetUp}
+use Rattle.rules.specs.Requests.{isUsed, isFop, isReturn, isPaired, partnerOf, exposureOfFop, openOrNone}
+use Rattle.rules.specs.Sound.{sound}
+use Rattle.rules.specs.ByRow.{soundHead, soundSecurity, soundParticipant, soundBasket, soundParties, basketNamed, returnNames, soundFop, soundReturn, soundKind, soundMarks, soundFields, same, alike, blank, marksAlike, soundPair, soundPaired, soundUnpaired, blankRow, soundRow, distinctNumber, soundExposure, distinctKey, soundPosition, soundHolding, soundPositions, soundHoldings, isSpare, soundSetUp, soundRequests, soundExposures}
+use Rattle.rules.specs.Stock.{participantSetUp, securitySetUp, basketSetUp, holding}
 use Rattle.facts.proofs.Truth.{split, join, Between, between-facts, facts-between}
 
 -- a test over a range, from each of its numbers

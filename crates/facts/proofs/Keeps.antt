@@ -2,11 +2,11 @@
 -- Assumes nothing.
 use mathlib.Core.Path.{_≡_}
 use Prim.Native.Nat.{ℕ, _+_, _<_}
-use Rattle.book.specs.Layout.{exposures}
+use Rattle.book.specs.Layout.{exposureAmounts}
 use Rattle.book.specs.State.{State, Fits}
 use Rattle.facts.proofs.Sums.{Sums, allNoted}
 use Rattle.rules.specs.Outcome.{Step}
-use Rattle.rules.specs.Sound.{holding}
+use Rattle.rules.specs.Stock.{holding}
 use Rattle.facts.proofs.Facts.{Sound}
 
 -- a sound state whose numbers fit their bytes
@@ -17,7 +17,7 @@ pub record Good (s : State) : Type 0 where
 -- each exposure row's amount is what was settled into it, less what was returned and closed, whether the row is in use or not: one
 -- that was freed holds 0, and keeps its sums until it is given out again. Past the last row nothing is ever noted, so e has no bound
 abbrev pub Amounts : State → Sums → Type 0
-Amounts s p = (e : ℕ) → p .returns e + p .closes e + s exposures e ≡ p .settledIn e
+Amounts s p = (e : ℕ) → p .returns e + p .closes e + s exposureAmounts e ≡ p .settledIn e
 
 -- what every step but an opening, a deposit and a withdrawal keeps
 pub record Keeps (s : State) (t : Step) : Type 0 where

@@ -8,14 +8,14 @@ use Prim.Native.Nat.{ℕ, zero, suc, _+_, _*_, _-_, _%_, _≤_, _<_}
 use native.Mathlib.Omega.{arith}
 use lib.Dec.{eqb, leb, ltb}
 use borrow.Author.Tests.{leb-true, le-leb, ltb-true, lt-ltb, eqb-true, eqb-false, eq-eqb, ne-eqb, not-true, not-false}
-use Rattle.laws.specs.Search.{all}
+use Rattle.laws.specs.Search.{all, between}
 use Rattle.laws.proofs.Cases.{either, clash, or-cases}
 use Rattle.laws.proofs.Least.{all-at, all-hit, all-none}
 use Rattle.calendar.specs.Target.{openDay}
-use Rattle.book.specs.Layout.{today, tolerance, nextNumber, lots, numbers, kinds, sides, givers, takers, objects, amounts, settlements, closings, references, settledAmounts, partners, pairPartials, cancels, ends, inUse, exposureGivers, exposureTakers, exposureBaskets, exposureClosings, exposures, accounts, positions}
+use Rattle.book.specs.Layout.{today, tolerance, nextNumber, lots, numbers, requestKinds, sides, givers, takers, basketsOrExposures, amounts, settlements, closings, references, settledAmounts, partners, pairPartials, cancels, ends, inUse, exposureGivers, exposureTakers, exposureBaskets, exposureClosings, exposureAmounts, accounts, positions}
 use Rattle.book.specs.State.{State}
-use Rattle.rules.specs.Requests.{isUsed, isFop, isReturn, isPaired, partnerOf, exposureOfFop}
-use Rattle.rules.specs.Sound.{between, openOrNone, soundHead, soundParties, basketNamed, returnNames, soundFop, soundReturn, soundKind, soundMarks, soundFields, same, alike, blank, marksAlike, soundPair, soundPaired, soundUnpaired, blankRow, soundRow, soundExposure, soundPosition}
+use Rattle.rules.specs.Requests.{isUsed, isFop, isReturn, isPaired, partnerOf, exposureOfFop, openOrNone}
+use Rattle.rules.specs.ByRow.{soundHead, soundParties, basketNamed, returnNames, soundFop, soundReturn, soundKind, soundMarks, soundFields, same, alike, blank, marksAlike, soundPair, soundPaired, soundUnpaired, blankRow, soundRow, soundExposure, soundPosition}
 use Rattle.rules.specs.Stock.{participantSetUp, securitySetUp, basketSetUp}
 use Rattle.facts.proofs.Facts.{all-of}
 use Rattle.facts.proofs.Truth.{split, join, Between, between-facts, facts-between}
@@ -38,24 +38,24 @@ pub record Parties (s : State) (giver taker : ℕ) : Type 0 where
 
 -- a FOP's own fields, and a return's
 pub record Fop (s : State) (i : ℕ) : Type 0 where
-  pub basket-below : s objects i < 16
-  pub basket-known : basketSetUp s (s objects i) ≡ true
+  pub basket-below : s basketsOrExposures i < 16
+  pub basket-known : basketSetUp s (s basketsOrExposures i) ≡ true
   pub amount-low : s tolerance 0 ≤ s amounts i
   pub amount-high : s amounts i ≤ 1000000000000
   pub closing : openOrNone (s closings i) ≡ true
 
 pub record Return (s : State) (i : ℕ) : Type 0 where
-  pub exposure-below : s objects i < 64
-  pub exposure-used : s inUse (s objects i) ≡ 1
-  pub giver : s exposureGivers (s objects i) ≡ s givers i
-  pub taker : s exposureTakers (s objects i) ≡ s takers i
+  pub exposure-below : s basketsOrExposures i < 64
+  pub exposure-used : s inUse (s basketsOrExposures i) ≡ 1
+  pub giver : s exposureGivers (s basketsOrExposures i) ≡ s givers i
+  pub taker : s exposureTakers (s basketsOrExposures i) ≡ s takers i
   pub amount-low : 1 ≤ s amounts i
   pub amount-high : s amounts i ≤ 1000000000000
   pub closing : s closings i ≡ 0
 
 pub data Kind (s : State) (i : ℕ) : Type 0 where
-  fop : s kinds i ≡ 6 → Fop s i → Kind s i
-  return : s kinds i ≡ 7 → Return s i → Kind s i
+  fop : s requestKinds i ≡ 6 → Fop s i → Kind s i
+  return : s requestKinds i ≡ 7 → Return s i → Kind s i
 
 -- the fields of a used row
 pub record Fields (s : State) (i : ℕ) : Type 0 where
@@ -74,10 +74,10 @@ pub record Pair (s : State) (i j : ℕ) : Type 0 where
   pub partner-below : j < 256
   pub named : s partners j ≡ i + 1
   pub opposite : s sides i + s sides j ≡ 1
-  pub kind : s kinds i ≡ s kinds j
+  pub kind : s requestKinds i ≡ s requestKinds j
   pub giver : s givers i ≡ s givers j
   pub taker : s takers i ≡ s takers j
-  pub object : s objects i ≡ s objects j
+  pub object : s basketsOrExposures i ≡ s basketsOrExposures j
   pub amount : s amounts i ≡ s amounts j
   pub settlement : s settlements i ≡ s settlements j
   pub closing : s closings i ≡ s closings j
@@ -100,7 +100,7 @@ pub record Exposure (s : State) (e : ℕ) : Type 0 where
   pub basket-below : s exposureBaskets e < 16
   pub basket-known : basketSetUp s (s exposureBaskets e) ≡ true
   pub closing : openOrNone (s exposureClosings e) ≡ true
-  pub amount : s exposures e ≤ 10000000000000
+  pub amount : s exposureAmounts e ≤ 10000000000000
 
 -- an exposure that is not used
 pub record NoExposure (s : State) (e : ℕ) : Type 0 where
@@ -108,12 +108,12 @@ pub record NoExposure (s : State) (e : ℕ) : Type 0 where
   pub taker : s exposureTakers e ≡ 0
   pub basket : s exposureBaskets e ≡ 0
   pub closing : s exposureClosings e ≡ 0
-  pub amount : s exposures e ≡ 0
+  pub amount : s exposureAmounts e ≡ 0
 
 -- a position that is not 0
 pub record Stocked (s : State) (e i : ℕ) : Type 0 where
   pub used : s inUse e ≡ 1
-  pub amount : s exposures e ≡ 0 → ⊥
+  pub amount : s exposureAmounts e ≡ 0 → ⊥
   pub known : securitySetUp s i ≡ true
   pub whole : s positions (64 * e + i) % s lots i ≡ 0
 
@@ -149,21 +149,21 @@ module _ (s : State) where
   module _ (i : ℕ) where
     fop-facts : soundFop s i ≡ true → Fop s i
     fop-facts h =
-        let t = split (basketNamed s (s objects i) ∷ between (s tolerance 0) 1000000000000 (s amounts i) ∷ openOrNone (s closings i) ∷ []) h in
-        let b = split (ltb (s objects i) 16 ∷ basketSetUp s (s objects i) ∷ []) (t .0) in
+        let t = split (basketNamed s (s basketsOrExposures i) ∷ between (s tolerance 0) 1000000000000 (s amounts i) ∷ openOrNone (s closings i) ∷ []) h in
+        let b = split (ltb (s basketsOrExposures i) 16 ∷ basketSetUp s (s basketsOrExposures i) ∷ []) (t .0) in
         let a = between-facts (s tolerance 0) 1000000000000 (s amounts i) (t .1 .0) in
-        record { basket-below = ltb-true (s objects i) 16 (b .0); basket-known = b .1; amount-low = a .0; amount-high = a .1; closing = t .1 .1 }
+        record { basket-below = ltb-true (s basketsOrExposures i) 16 (b .0); basket-known = b .1; amount-low = a .0; amount-high = a .1; closing = t .1 .1 }
 
     facts-fop : Fop s i → soundFop s i ≡ true
     facts-fop f =
-        join (basketNamed s (s objects i) ∷ between (s tolerance 0) 1000000000000 (s amounts i) ∷ openOrNone (s closings i) ∷ []) (
-          join (ltb (s objects i) 16 ∷ basketSetUp s (s objects i) ∷ []) (lt-ltb (s objects i) 16 (f .basket-below), f .basket-known),
+        join (basketNamed s (s basketsOrExposures i) ∷ between (s tolerance 0) 1000000000000 (s amounts i) ∷ openOrNone (s closings i) ∷ []) (
+          join (ltb (s basketsOrExposures i) 16 ∷ basketSetUp s (s basketsOrExposures i) ∷ []) (lt-ltb (s basketsOrExposures i) 16 (f .basket-below), f .basket-known),
           (facts-between (s tolerance 0) 1000000000000 (s amounts i) (f .amount-low, f .amount-high), f .closing),
         )
 
     return-facts : soundReturn s i ≡ true → Return s i
     return-facts h =
-        let o = s objects i in
+        let o = s basketsOrExposures i in
         let t = split (returnNames s i ∷ between 1 1000000000000 (s amounts i) ∷ eqb (s closings i) 0 ∷ []) h in
         let n = split (ltb o 64 ∷ eqb (s inUse o) 1 ∷ eqb (s exposureGivers o) (s givers i) ∷ eqb (s exposureTakers o) (s takers i) ∷ []) (t .0) in
         let a = between-facts 1 1000000000000 (s amounts i) (t .1 .0) in
@@ -179,7 +179,7 @@ module _ (s : State) where
 
     facts-return : Return s i → soundReturn s i ≡ true
     facts-return r =
-        let o = s objects i in
+        let o = s basketsOrExposures i in
         join (returnNames s i ∷ between 1 1000000000000 (s amounts i) ∷ eqb (s closings i) 0 ∷ []) (
           join (ltb o 64 ∷ eqb (s inUse o) 1 ∷ eqb (s exposureGivers o) (s givers i) ∷ eqb (s exposureTakers o) (s takers i) ∷ [])
               (lt-ltb o 64 (r .exposure-below), (eq-eqb (s inUse o) 1 (r .exposure-used), (eq-eqb (s exposureGivers o) (s givers i) (r .giver), eq-eqb (s exposureTakers o) (s takers i) (r .taker)))),
@@ -189,12 +189,12 @@ module _ (s : State) where
     kind-facts : soundKind s i ≡ true → Kind s i
     kind-facts h =
         ⊎-elim
-        (λ f. let t = split (isFop s i ∷ soundFop s i ∷ []) f in fop (eqb-true (s kinds i) 6 (t .0)) (fop-facts (t .1)))
-        (λ r. let t = split (isReturn s i ∷ soundReturn s i ∷ []) r in return (eqb-true (s kinds i) 7 (t .0)) (return-facts (t .1)))
+        (λ f. let t = split (isFop s i ∷ soundFop s i ∷ []) f in fop (eqb-true (s requestKinds i) 6 (t .0)) (fop-facts (t .1)))
+        (λ r. let t = split (isReturn s i ∷ soundReturn s i ∷ []) r in return (eqb-true (s requestKinds i) 7 (t .0)) (return-facts (t .1)))
         (or-cases (isFop s i && soundFop s i) (isReturn s i && soundReturn s i) h)
 
     facts-kind : Kind s i → soundKind s i ≡ true
-    facts-kind (fop e f) = rw (eq-eqb (s kinds i) 6 e, facts-fop f)
+    facts-kind (fop e f) = rw (eq-eqb (s requestKinds i) 6 e, facts-fop f)
     facts-kind (return e r) = rw (e, facts-return r)
 
     fields-facts : soundFields s i ≡ true → Fields s i
@@ -235,17 +235,17 @@ module _ (s : State) where
 
     pair-facts : (j : ℕ) → soundPair s i j ≡ true → Pair s i j
     pair-facts j h =
-        let t = split (ltb j 256 ∷ eqb (s partners j) (i + 1) ∷ eqb (s sides i + s sides j) 1 ∷ same s kinds i j ∷ alike s 6 givers i j ∷ marksAlike s i j ∷ []) h in
+        let t = split (ltb j 256 ∷ eqb (s partners j) (i + 1) ∷ eqb (s sides i + s sides j) 1 ∷ same s requestKinds i j ∷ alike s 6 givers i j ∷ marksAlike s i j ∷ []) h in
         let at : (f : ℕ) → givers ≤ f → f < givers + 6 → s f i ≡ s f j = λ f g l. eqb-true (s f i) (s f j) (all-at (λ f. same s f i j) 6 givers (t .1 .1 .1 .1 .0) f g l) in
         let m = split (same s settledAmounts i j ∷ same s ends i j ∷ same s pairPartials i j ∷ []) (t .1 .1 .1 .1 .1) in
         record {
           partner-below = ltb-true j 256 (t .0);
           named = eqb-true (s partners j) (i + 1) (t .1 .0);
           opposite = eqb-true (s sides i + s sides j) 1 (t .1 .1 .0);
-          kind = eqb-true (s kinds i) (s kinds j) (t .1 .1 .1 .0);
+          kind = eqb-true (s requestKinds i) (s requestKinds j) (t .1 .1 .1 .0);
           giver = at givers (omega arith) (omega arith);
           taker = at takers (omega arith) (omega arith);
-          object = at objects (omega arith) (omega arith);
+          object = at basketsOrExposures (omega arith) (omega arith);
           amount = at amounts (omega arith) (omega arith);
           settlement = at settlements (omega arith) (omega arith);
           closing = at closings (omega arith) (omega arith);
@@ -260,7 +260,7 @@ module _ (s : State) where
         let t : ℕ → Bool = λ f. same s f i j in
         all-hit t 5 givers (eq-eqb (s givers i) (s givers j) (p .giver))
         ∙ all-hit t 4 takers (eq-eqb (s takers i) (s takers j) (p .taker))
-        ∙ all-hit t 3 objects (eq-eqb (s objects i) (s objects j) (p .object))
+        ∙ all-hit t 3 basketsOrExposures (eq-eqb (s basketsOrExposures i) (s basketsOrExposures j) (p .object))
         ∙ all-hit t 2 amounts (eq-eqb (s amounts i) (s amounts j) (p .amount))
         ∙ all-hit t 1 settlements (eq-eqb (s settlements i) (s settlements j) (p .settlement))
         ∙ all-hit t 0 closings (eq-eqb (s closings i) (s closings j) (p .closing))
@@ -268,14 +268,14 @@ module _ (s : State) where
 
     facts-pair : (j : ℕ) → Pair s i j → soundPair s i j ≡ true
     facts-pair j p =
-        join (ltb j 256 ∷ eqb (s partners j) (i + 1) ∷ eqb (s sides i + s sides j) 1 ∷ same s kinds i j ∷ alike s 6 givers i j ∷ marksAlike s i j ∷ []) (
+        join (ltb j 256 ∷ eqb (s partners j) (i + 1) ∷ eqb (s sides i + s sides j) 1 ∷ same s requestKinds i j ∷ alike s 6 givers i j ∷ marksAlike s i j ∷ []) (
           lt-ltb j 256 (p .partner-below),
           (
             eq-eqb (s partners j) (i + 1) (p .named),
             (
               eq-eqb (s sides i + s sides j) 1 (p .opposite),
               (
-                eq-eqb (s kinds i) (s kinds j) (p .kind),
+                eq-eqb (s requestKinds i) (s requestKinds j) (p .kind),
                 (
                   alike-of j p,
                   join (same s settledAmounts i j ∷ same s ends i j ∷ same s pairPartials i j ∷ [])
@@ -327,8 +327,8 @@ module _ (s : State) where
         unpaired-facts (rw p at (t .1))
 
     -- an unused row, in each of its tables
-    pub unused-blank : soundRow s i ≡ true → isUsed s i ≡ false → (f : ℕ) → kinds ≤ f → f < kinds + 14 → s f i ≡ 0
-    unused-blank h u f g l = eqb-true (s f i) 0 (all-at (λ f. eqb (s f i) 0) 14 kinds (rw u at h) f g l)
+    pub unused-blank : soundRow s i ≡ true → isUsed s i ≡ false → (f : ℕ) → requestKinds ≤ f → f < requestKinds + 14 → s f i ≡ 0
+    unused-blank h u f g l = eqb-true (s f i) 0 (all-at (λ f. eqb (s f i) 0) 14 requestKinds (rw u at h) f g l)
 
     -- and back
     pub paired-sound : isUsed s i ≡ true → Fields s i → isPaired s i ≡ true → Paired s i → soundRow s i ≡ true
@@ -337,31 +337,31 @@ module _ (s : State) where
     pub unpaired-sound : isUsed s i ≡ true → Fields s i → isPaired s i ≡ false → Unpaired s i → soundRow s i ≡ true
     unpaired-sound u f e n = rw (u, facts-fields f, e) (facts-unpaired n)
 
-    pub blank-sound : isUsed s i ≡ false → ((f : ℕ) → kinds ≤ f → f < kinds + 14 → s f i ≡ 0) → soundRow s i ≡ true
-    blank-sound u z = rw u (all-of (λ f. eqb (s f i) 0) 14 kinds (λ f g l. eq-eqb (s f i) 0 (z f g l)))
+    pub blank-sound : isUsed s i ≡ false → ((f : ℕ) → requestKinds ≤ f → f < requestKinds + 14 → s f i ≡ 0) → soundRow s i ≡ true
+    blank-sound u z = rw u (all-of (λ f. eqb (s f i) 0) 14 requestKinds (λ f g l. eq-eqb (s f i) 0 (z f g l)))
 
   module _ (e : ℕ) where
     -- an exposure is used or not
     pub used-exposure : soundExposure s e ≡ true → s inUse e ≡ 1 → Exposure s e
     used-exposure h u =
-        let t = split (soundParties s (s exposureGivers e) (s exposureTakers e) ∷ basketNamed s (s exposureBaskets e) ∷ openOrNone (s exposureClosings e) ∷ leb (s exposures e) 10000000000000 ∷ []) (rw u at h) in
+        let t = split (soundParties s (s exposureGivers e) (s exposureTakers e) ∷ basketNamed s (s exposureBaskets e) ∷ openOrNone (s exposureClosings e) ∷ leb (s exposureAmounts e) 10000000000000 ∷ []) (rw u at h) in
         let b = split (ltb (s exposureBaskets e) 16 ∷ basketSetUp s (s exposureBaskets e) ∷ []) (t .1 .0) in
         record {
           parties = parties-facts (s exposureGivers e) (s exposureTakers e) (t .0);
           basket-below = ltb-true (s exposureBaskets e) 16 (b .0);
           basket-known = b .1;
           closing = t .1 .1 .0;
-          amount = leb-true (s exposures e) 10000000000000 (t .1 .1 .1);
+          amount = leb-true (s exposureAmounts e) 10000000000000 (t .1 .1 .1);
         }
 
     pub exposure-sound : s inUse e ≡ 1 → Exposure s e → soundExposure s e ≡ true
     exposure-sound u x =
         rw u
-        (join (soundParties s (s exposureGivers e) (s exposureTakers e) ∷ basketNamed s (s exposureBaskets e) ∷ openOrNone (s exposureClosings e) ∷ leb (s exposures e) 10000000000000 ∷ []) (
+        (join (soundParties s (s exposureGivers e) (s exposureTakers e) ∷ basketNamed s (s exposureBaskets e) ∷ openOrNone (s exposureClosings e) ∷ leb (s exposureAmounts e) 10000000000000 ∷ []) (
           facts-parties (s exposureGivers e) (s exposureTakers e) (x .parties),
           (
             join (ltb (s exposureBaskets e) 16 ∷ basketSetUp s (s exposureBaskets e) ∷ []) (lt-ltb (s exposureBaskets e) 16 (x .basket-below), x .basket-known),
-            (x .closing, le-leb (s exposures e) 10000000000000 (x .amount)),
+            (x .closing, le-leb (s exposureAmounts e) 10000000000000 (x .amount)),
           ),
         ))
 
@@ -373,7 +373,7 @@ module _ (s : State) where
           taker = at exposureTakers (omega arith) (omega arith);
           basket = at exposureBaskets (omega arith) (omega arith);
           closing = at exposureClosings (omega arith) (omega arith);
-          amount = at exposures (omega arith) (omega arith);
+          amount = at exposureAmounts (omega arith) (omega arith);
         }
 
     pub no-exposure-sound : s inUse e ≡ 0 → NoExposure s e → soundExposure s e ≡ true
@@ -384,14 +384,14 @@ module _ (s : State) where
         ∙ all-hit t 3 exposureTakers (eq-eqb (s exposureTakers e) 0 (x .taker))
         ∙ all-hit t 2 exposureBaskets (eq-eqb (s exposureBaskets e) 0 (x .basket))
         ∙ all-hit t 1 exposureClosings (eq-eqb (s exposureClosings e) 0 (x .closing))
-        ∙ all-hit t 0 exposures (eq-eqb (s exposures e) 0 (x .amount))
+        ∙ all-hit t 0 exposureAmounts (eq-eqb (s exposureAmounts e) 0 (x .amount))
         ∙ all-none t accounts)
 
     pub used-or-not : soundExposure s e ≡ true → (s inUse e ≡ 0) ⊎ (s inUse e ≡ 1)
     used-or-not h =
         ⊎-elim
         (λ z. inl (eqb-true (s inUse e) 0 z))
-        (λ z. let t = split (eqb (s inUse e) 1 ∷ soundParties s (s exposureGivers e) (s exposureTakers e) ∷ basketNamed s (s exposureBaskets e) ∷ openOrNone (s exposureClosings e) ∷ leb (s exposures e) 10000000000000 ∷ []) (rw z at h) in inr (eqb-true (s inUse e) 1 (t .0)))
+        (λ z. let t = split (eqb (s inUse e) 1 ∷ soundParties s (s exposureGivers e) (s exposureTakers e) ∷ basketNamed s (s exposureBaskets e) ∷ openOrNone (s exposureClosings e) ∷ leb (s exposureAmounts e) 10000000000000 ∷ []) (rw z at h) in inr (eqb-true (s inUse e) 1 (t .0)))
         (either (eqb (s inUse e) 0))
 
     -- a position is 0 or stocked
@@ -400,14 +400,14 @@ module _ (s : State) where
         let x = s positions (64 * e + i) in
         ⊎-elim
         (λ z. inl (eqb-true x 0 z))
-        (λ z. let t = split (eqb (s inUse e) 1 ∷ not (eqb (s exposures e) 0) ∷ securitySetUp s i ∷ eqb (x % s lots i) 0 ∷ []) z in
+        (λ z. let t = split (eqb (s inUse e) 1 ∷ not (eqb (s exposureAmounts e) 0) ∷ securitySetUp s i ∷ eqb (x % s lots i) 0 ∷ []) z in
         inr (record {
           used = eqb-true (s inUse e) 1 (t .0);
-          amount = eqb-false (s exposures e) 0 (not-true (eqb (s exposures e) 0) (t .1 .0));
+          amount = eqb-false (s exposureAmounts e) 0 (not-true (eqb (s exposureAmounts e) 0) (t .1 .0));
           known = t .1 .1 .0;
           whole = eqb-true (x % s lots i) 0 (t .1 .1 .1);
         }))
-        (or-cases (eqb x 0) (eqb (s inUse e) 1 && (not (eqb (s exposures e) 0) && (securitySetUp s i && eqb (x % s lots i) 0))) h)
+        (or-cases (eqb x 0) (eqb (s inUse e) 1 && (not (eqb (s exposureAmounts e) 0) && (securitySetUp s i && eqb (x % s lots i) 0))) h)
 
     pub position-none : (i : ℕ) → s positions (64 * e + i) ≡ 0 → soundPosition s e i ≡ true
     position-none i z = rw z
@@ -415,6 +415,6 @@ module _ (s : State) where
     pub position-stocked : (i : ℕ) → Stocked s e i → soundPosition s e i ≡ true
     position-stocked i k =
         let x = s positions (64 * e + i) in
-        let rest = join (eqb (s inUse e) 1 ∷ not (eqb (s exposures e) 0) ∷ securitySetUp s i ∷ eqb (x % s lots i) 0 ∷ [])
-        (eq-eqb (s inUse e) 1 (k .used), (rw (ne-eqb (s exposures e) 0 (k .amount)), (k .known, eq-eqb (x % s lots i) 0 (k .whole)))) in
+        let rest = join (eqb (s inUse e) 1 ∷ not (eqb (s exposureAmounts e) 0) ∷ securitySetUp s i ∷ eqb (x % s lots i) 0 ∷ [])
+        (eq-eqb (s inUse e) 1 (k .used), (rw (ne-eqb (s exposureAmounts e) 0 (k .amount)), (k .known, eq-eqb (x % s lots i) 0 (k .whole)))) in
         rw (rest, or-true)

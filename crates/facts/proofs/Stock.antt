@@ -19,10 +19,11 @@ use Rattle.calendar.specs.Target.{openDay}
 use Rattle.calendar.proofs.OpenDays.{open-within}
 use Rattle.securities.specs.Security.{securityAt, InBounds, AllInBounds}
 use Rattle.securities.specs.Position.{Within, nominalsOf}
-use Rattle.book.specs.Layout.{today, lots, prices, haircuts, quotes, ages, maps, inUse, exposureGivers, accounts, positions}
+use Rattle.book.specs.Layout.{today, lots, prices, haircuts, quoteDays, greatestAges, maps, inUse, exposureGivers, accounts, positions}
 use Rattle.book.specs.State.{State, columnsOf, rowAt}
-use Rattle.rules.specs.Sound.{between, soundSecurity, soundBasket, holding, positionFrom}
-use Rattle.rules.specs.Stock.{securitySetUp, basketSetUp, accountOf, positionOf}
+use Rattle.laws.specs.Search.{between}
+use Rattle.rules.specs.ByRow.{soundSecurity, soundBasket}
+use Rattle.rules.specs.Stock.{securitySetUp, basketSetUp, accountOf, positionOf, holding, positionFrom}
 use Rattle.facts.proofs.Facts.{Sound}
 use Rattle.facts.proofs.Rows.{Head, head-facts, used-exposure, position-facts}
 use Rattle.facts.proofs.Truth.{split, between-facts}
@@ -56,28 +57,28 @@ module _ (s : State) where
     pub lot-le : (i : ℕ) → i < 64 → s lots i ≤ 1000000
     lot-le i l =
         ⊎-elim
-        (λ u. let t = split (leb (s lots i) 1000000 ∷ between 1 3000000 (s prices i) ∷ leb (s haircuts i) 9999 ∷ openDay (s quotes i) ∷ []) (rw u at (f .security i l)) in leb-true (s lots i) 1000000 (t .0))
+        (λ u. let t = split (leb (s lots i) 1000000 ∷ between 1 3000000 (s prices i) ∷ leb (s haircuts i) 9999 ∷ openDay (s quoteDays i) ∷ []) (rw u at (f .security i l)) in leb-true (s lots i) 1000000 (t .0))
         (λ u. omega (arith, eqb-true (s lots i) 0 (not-false (eqb (s lots i) 0) u)))
         (either (securitySetUp s i))
 
     pub price-le : (i : ℕ) → i < 64 → s prices i ≤ 3000000
     price-le i l =
         ⊎-elim
-        (λ u. let t = split (leb (s lots i) 1000000 ∷ between 1 3000000 (s prices i) ∷ leb (s haircuts i) 9999 ∷ openDay (s quotes i) ∷ []) (rw u at (f .security i l)) in between-facts 1 3000000 (s prices i) (t .1 .0) .1)
-        (λ u. let t = split (eqb (s prices i) 0 ∷ eqb (s haircuts i) 0 ∷ eqb (s quotes i) 0 ∷ []) (rw u at (f .security i l)) in omega (arith, eqb-true (s prices i) 0 (t .0)))
+        (λ u. let t = split (leb (s lots i) 1000000 ∷ between 1 3000000 (s prices i) ∷ leb (s haircuts i) 9999 ∷ openDay (s quoteDays i) ∷ []) (rw u at (f .security i l)) in between-facts 1 3000000 (s prices i) (t .1 .0) .1)
+        (λ u. let t = split (eqb (s prices i) 0 ∷ eqb (s haircuts i) 0 ∷ eqb (s quoteDays i) 0 ∷ []) (rw u at (f .security i l)) in omega (arith, eqb-true (s prices i) 0 (t .0)))
         (either (securitySetUp s i))
 
     pub priced : (i : ℕ) → i < 64 → 0 < s lots i → 1 ≤ s prices i
     priced i l m =
         let u : securitySetUp s i ≡ true = rw (ne-eqb (s lots i) 0 (λ z. omega arith)) in
-        let t = split (leb (s lots i) 1000000 ∷ between 1 3000000 (s prices i) ∷ leb (s haircuts i) 9999 ∷ openDay (s quotes i) ∷ []) (rw u at (f .security i l)) in
+        let t = split (leb (s lots i) 1000000 ∷ between 1 3000000 (s prices i) ∷ leb (s haircuts i) 9999 ∷ openDay (s quoteDays i) ∷ []) (rw u at (f .security i l)) in
         between-facts 1 3000000 (s prices i) (t .1 .0) .0
 
     pub haircut-le : (i : ℕ) → i < 64 → s haircuts i ≤ 9999
     haircut-le i l =
         ⊎-elim
-        (λ u. let t = split (leb (s lots i) 1000000 ∷ between 1 3000000 (s prices i) ∷ leb (s haircuts i) 9999 ∷ openDay (s quotes i) ∷ []) (rw u at (f .security i l)) in leb-true (s haircuts i) 9999 (t .1 .1 .0))
-        (λ u. let t = split (eqb (s prices i) 0 ∷ eqb (s haircuts i) 0 ∷ eqb (s quotes i) 0 ∷ []) (rw u at (f .security i l)) in omega (arith, eqb-true (s haircuts i) 0 (t .1 .0)))
+        (λ u. let t = split (leb (s lots i) 1000000 ∷ between 1 3000000 (s prices i) ∷ leb (s haircuts i) 9999 ∷ openDay (s quoteDays i) ∷ []) (rw u at (f .security i l)) in leb-true (s haircuts i) 9999 (t .1 .1 .0))
+        (λ u. let t = split (eqb (s prices i) 0 ∷ eqb (s haircuts i) 0 ∷ eqb (s quoteDays i) 0 ∷ []) (rw u at (f .security i l)) in omega (arith, eqb-true (s haircuts i) 0 (t .1 .0)))
         (either (securitySetUp s i))
 
     -- what Pick, Free and a value count on
@@ -93,11 +94,11 @@ module _ (s : State) where
     pub today-le : s today 0 ≤ 146096
     today-le = open-within (s today 0) (head-facts s (f .head) .open-today)
 
-    pub age-le : (b : ℕ) → b < 16 → s ages b ≤ 255
+    pub age-le : (b : ℕ) → b < 16 → s greatestAges b ≤ 255
     age-le b l =
         ⊎-elim
-        (λ u. leb-true (s ages b) 255 (rw u at (f .basket b l)))
-        (λ u. omega (arith, eqb-true (s ages b) 0 (rw u at (f .basket b l))))
+        (λ u. leb-true (s greatestAges b) 255 (rw u at (f .basket b l)))
+        (λ u. omega (arith, eqb-true (s greatestAges b) 0 (rw u at (f .basket b l))))
         (either (basketSetUp s b))
 
     -- "account plus positions .. at most 500,000,000": each of them is

@@ -10,10 +10,10 @@ use native.Mathlib.Omega.{arith}
 use lib.Dec.{eqb}
 use borrow.Author.Tests.{eq-eqb, ne-eqb}
 use Rattle.laws.proofs.Cases.{either}
-use Rattle.book.specs.Layout.{exposures}
+use Rattle.book.specs.Layout.{exposureAmounts}
 use Rattle.ledger.specs.Ledger.{Paper, onPaper, noted, allNoted}
 use Rattle.rules.specs.Outcome.{Event, given, settled, returned, closed}
-use Rattle.rules.specs.Sound.{holding}
+use Rattle.rules.specs.Stock.{holding}
 use Rattle.facts.proofs.Keeps.{Good, Amounts}
 use Rattle.facts.proofs.Sums.{Sums}
 use Rattle.facts.proofs.Sums as told
@@ -33,9 +33,9 @@ module _ (p : Paper) (o : InOrder p) where
   on-paper-at : (f i : ℕ) → onPaper p f i ≡ p .steps f i
   unfolding onPaper
   on-paper-at f i =
-      elim (ℕ-discrete f exposures) [
-        | yes e ↦ rw (eq-eqb f exposures e, e) (omega (arith, o .amounts i))
-        | no e ↦ rw (ne-eqb f exposures e)
+      elim (ℕ-discrete f exposureAmounts) [
+        | yes e ↦ rw (eq-eqb f exposureAmounts e, e) (omega (arith, o .amounts i))
+        | no e ↦ rw (ne-eqb f exposureAmounts e)
       ]
 
   pub on-paper : onPaper p ≡ p .steps

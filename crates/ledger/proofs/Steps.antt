@@ -14,7 +14,8 @@ use Rattle.rules.specs.Codes.{openingRules, depositRules, withdrawalRules, fopR
 use Rattle.rules.specs.DayChange.{nextDay}
 use Rattle.ledger.specs.Ledger.{Paper, stepped, fresh, lodged, allNoted, more2, takenDown}
 use Rattle.rules.specs.Marking.{marked, recall}
-use Rattle.rules.specs.Outcome.{Step, lowest, field}
+use Rattle.rules.specs.Outcome.{Step, lowest}
+use Rattle.rules.specs.Fields.{field}
 use Rattle.rules.specs.Requesting.{entered, cancelled}
 use Rattle.rules.specs.Settlement.{settlement}
 use Rattle.rules.specs.SetUp.{opened, priced, enrolled, basketMade, deposited, withdrawn}

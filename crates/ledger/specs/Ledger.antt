@@ -8,13 +8,14 @@ use lib.Dec.{eqb}
 use lib.ListN.{length, replicate}
 use Rattle.laws.specs.Numbers.{bytesOf}
 use Rattle.calendar.specs.Target.{openDay}
-use Rattle.book.specs.Layout.{bookLength, inUse, exposureGivers, exposureTakers, exposureBaskets, exposureClosings, exposures}
+use Rattle.book.specs.Layout.{bookLength, inUse, exposureGivers, exposureTakers, exposureBaskets, exposureClosings, exposureAmounts}
 use Rattle.book.specs.State.{State, state}
 use Rattle.records.specs.Reading.{read}
 use Rattle.rules.specs.Call.{stepOf, recordCode, opens, callCode, callBook}
-use Rattle.rules.specs.Outcome.{Event, given, settled, returned, closed, lowest, field}
+use Rattle.rules.specs.Outcome.{Event, given, settled, returned, closed, lowest}
+use Rattle.rules.specs.Fields.{field}
 use Rattle.rules.specs.Reads.{Read, readRules, readCode}
-use Rattle.rules.specs.Sound.{holding}
+use Rattle.rules.specs.Stock.{holding}
 
 -- a call of the list: a record's bytes, of any kind, cut or unknown ones too; or a read
 pub data Call : Type 0 where
@@ -36,7 +37,7 @@ amountOnPaper p e = p .settledIn e - p .returns e - p .closes e
 
 -- what the Steps are run on: the paper, with the amount of each exposure row by its sums
 unfoldable pub onPaper : Paper → State
-onPaper p f i = cond (eqb f exposures) (amountOnPaper p i) (p .steps f i)
+onPaper p f i = cond (eqb f exposureAmounts) (amountOnPaper p i) (p .steps f i)
 
 -- "is added to": a sum of each exposure row with n more in the row e
 abbrev pub more : (ℕ → ℕ) → ℕ → ℕ → ℕ → ℕ
@@ -178,7 +179,7 @@ pub record Agrees (s : State) (p : Paper) : Type 0 where
   -- "the amount of each equals the amounts settled into it less those returned and those closed since its row was last given out": a
   -- difference that does not go below 0. It is said of every row, in use or not: an exposure that a day change zeroes is freed by the
   -- same day change, so C is 0 in every row in use, and said of those alone it would hold of a ledger that forgets closings
-  pub amounts : (e : ℕ) → e < 64 → s exposures e ≡ amountOnPaper p e
+  pub amounts : (e : ℕ) → e < 64 → s exposureAmounts e ≡ amountOnPaper p e
   pub not-below : (e : ℕ) → e < 64 → p .returns e + p .closes e ≤ p .settledIn e
 
 -- a list "that begins with an accepted opening, whatever the book held before"

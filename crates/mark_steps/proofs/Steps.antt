@@ -19,7 +19,7 @@ use Rattle.picking.specs.Free.{freed}
 use Rattle.picking.specs.declared.Freed.{Freed}
 use Rattle.picking.specs.declared.Outcome.{Outcome}
 use Rattle.securities.specs.Position.{worth, nominalsOf}
-use Rattle.book.specs.Layout.{bookLength, today, inUse, exposures, positions}
+use Rattle.book.specs.Layout.{bookLength, today, inUse, exposureAmounts, positions}
 use Rattle.book.specs.State.{State, state, columnsOf}
 use Rattle.bonds.specs.Moves.{SoundBook, Pledging, GivingBack}
 use Rattle.bonds.proofs.Ready.{gives-back, pledges}
@@ -81,12 +81,12 @@ module _ {book columns : List ℕ} {e : ℕ} (m : SoundBook book columns) where
           gives-step f l g = ineligible-step l (some-back (state book) e nominals nothing f (ineligible-gives .enough) g)
 
       -- second pass
-      module _ {amount : ℕ} {f : Freed} (a : amount ≡ state book exposures e) (n : f ≡ freed columns position amount) where
-        excess-is : f ≡ freeFor (state book) e (state book exposures e)
+      module _ {amount : ℕ} {f : Freed} (a : amount ≡ state book exposureAmounts e) (n : f ≡ freed columns position amount) where
+        excess-is : f ≡ freeFor (state book) e (state book exposureAmounts e)
         excess-is = rw (m .securities, p, a) at n
 
         pub excess-gives : GivingBack (state book) e (f .nominals)
-        excess-gives = rw excess-is (gives-back (state book) e _ (facts-of m) below (sym q ∙ o) (free-returnable (state book) e (state book exposures e)))
+        excess-gives = rw excess-is (gives-back (state book) e _ (facts-of m) below (sym q ∙ o) (free-returnable (state book) e (state book exposureAmounts e)))
 
         pub excess-step : {after : List ℕ} {r : ℕ} → length after ≡ bookLength → Moved giveBack book after e (f .nominals) r → Stepped excessBack columns book after e r
         unfolding excessBack
@@ -95,7 +95,7 @@ module _ {book columns : List ℕ} {e : ℕ} (m : SoundBook book columns) where
         pub excess-missing : {t : State} {x : ℕ} → t ≡ giveBack (state book) e (f .nominals) → x ≡ amount - f .left → x ≡ missingOf t e
         excess-missing g h =
             let k = amounts-kept (own-giveBack (state book) e (f .nominals) .bonds) e in
-            let v : valueOf (giveBack (state book) e (f .nominals)) e ≡ f .left = rw excess-is (value-freed (state book) e (state book exposures e)) in
+            let v : valueOf (giveBack (state book) e (f .nominals)) e ≡ f .left = rw excess-is (value-freed (state book) e (state book exposureAmounts e)) in
             rw g (missing-used (giveBack (state book) e (f .nominals)) e (k .0 ∙ sym q ∙ o) (h ∙ rw (a, v, k .1)))
 
     -- third pass
@@ -105,7 +105,7 @@ module _ {book columns : List ℕ} {e : ℕ} (m : SoundBook book columns) where
       covered-step z =
           let s = state book in
           let same : s ≡ onUsed shortfallIn s e = ⊎-elim
-          (λ t. let n : missing ≡ s exposures e - valueOf s e = rw t at h in rw (t, le-ltb (valueOf s e) (s exposures e) (omega arith)))
+          (λ t. let n : missing ≡ s exposureAmounts e - valueOf s e = rw t at h in rw (t, le-ltb (valueOf s e) (s exposureAmounts e) (omega arith)))
           (λ f. rw f)
           (either (eqb (s inUse e) 1)) in
           record { book = m; stepped = same; flag-is = rw (moved-none (state book) e) }
@@ -118,12 +118,12 @@ module _ {book columns : List ℕ} {e : ℕ} (m : SoundBook book columns) where
         unfolding shortfallIn
         search-step l t =
             let i = lacking-is (state book) e h some in
-            let short : valueOf (state book) e < state book exposures e = omega arith in
-            used-step third-pass (lacking-used (state book) e h some) l (rw (lt-ltb (valueOf (state book) e) (state book exposures e) short) (rw (n, i) at (t .0))) (t .1)
+            let short : valueOf (state book) e < state book exposureAmounts e = omega arith in
+            used-step third-pass (lacking-used (state book) e h some) l (rw (lt-ltb (valueOf (state book) e) (state book exposureAmounts e) short) (rw (n, i) at (t .0))) (t .1)
 
         -- the position after it, valued anew
         pub search-missing-is : {after row : List ℕ} {r v x y : ℕ} → Stepped shortfallIn columns book after e r → row ≡ positionOf (state after) e → v ≡ worth columns (nominalsOf row)
-            → y ≡ state after exposures e → x ≡ y - v → x ≡ missingOf (state after) e
+            → y ≡ state after exposureAmounts e → x ≡ y - v → x ≡ missingOf (state after) e
         search-missing-is {after} {row} {r} {v} {x} t p w a d =
             let b = own-used shortfallIn (third-pass .local) (state book) e .bonds in
             let u : state after inUse e ≡ 1 = rw (t .stepped) (amounts-kept b e .0) ∙ lacking-used (state book) e h some in

@@ -17,7 +17,7 @@ use Rattle.securities.specs.Position.{worth, valueAt, nominalsOf}
 use Rattle.securities.specs.Security.{securityAt}
 use Rattle.picking.specs.Free.{remaining}
 use Rattle.picking.proofs.Frees.{freeing}
-use Rattle.book.specs.Layout.{inUse, exposures}
+use Rattle.book.specs.Layout.{inUse, exposureAmounts}
 use Rattle.book.specs.State.{State, columnsOf}
 use Rattle.bond_laws.proofs.Moving.{giveBack-position}
 use Rattle.facts.proofs.Stock.{position-at}
@@ -43,7 +43,7 @@ value-freed s e amount =
 
 -- what is missing of an exposure
 module _ (s : State) (e : ℕ) where
-  pub missing-used : {x : ℕ} → s inUse e ≡ 1 → x ≡ s exposures e - valueOf s e → x ≡ missingOf s e
+  pub missing-used : {x : ℕ} → s inUse e ≡ 1 → x ≡ s exposureAmounts e - valueOf s e → x ≡ missingOf s e
   missing-used o h = rw (eq-eqb (s inUse e) 1 o) h
 
   pub missing-unused : {u : ℕ} → u ≡ s inUse e → (u ≡ 1 → ⊥) → 0 ≡ missingOf s e
@@ -53,5 +53,5 @@ module _ (s : State) (e : ℕ) where
     pub lacking-used : s inUse e ≡ 1
     lacking-used = ⊎-elim (λ t. eqb-true (s inUse e) 1 t) (λ f. absurd (some (rw f at h))) (either (eqb (s inUse e) 1))
 
-    pub lacking-is : x ≡ s exposures e - valueOf s e
+    pub lacking-is : x ≡ s exposureAmounts e - valueOf s e
     lacking-is = rw (eq-eqb (s inUse e) 1 lacking-used) at h

@@ -14,7 +14,7 @@ ghost use Rattle.securities.specs.Security.{AllInBounds};
 ghost use Rattle.marking_laws.specs.Pass.{isEmpty};
 ghost use Rattle.mark_steps.specs.Stepped.{Stepped, bit, ineligibleIn, mayStay};
 use baskets::Eligibility;
-use book::layout::EXPOSURES;
+use book::layout::EXPOSURE_AMOUNTS;
 use book::layout::IN_USE;
 use book::layout::POSITIONS;
 
@@ -136,7 +136,7 @@ pub fn free_excess(book: &mut [u8], columns: &[u64; 256], e: usize) -> Passed
         };
     }
     let position = book::row_at(book, POSITIONS, 64 * e);
-    let amount = book::get(book, EXPOSURES, e);
+    let amount = book::get(book, EXPOSURE_AMOUNTS, e);
     let freed = picking::free(&position, columns, amount);
     let nominals = freed.nominals;
     let moved = give_any_back(book, e, &nominals);
@@ -168,7 +168,7 @@ pub fn search_missing(
     bonds::pledge(book, e, &nominals);
     let position = book::row_at(book, POSITIONS, 64 * e);
     let value = securities::worth_of(&position, columns);
-    let exposure = book::get(book, EXPOSURES, e);
+    let exposure = book::get(book, EXPOSURE_AMOUNTS, e);
     Passed {
         moved: 1,
         missing: bonds::missing_from(exposure, value),

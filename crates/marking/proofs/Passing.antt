@@ -12,7 +12,7 @@ use lib.Dec.{eqb}
 use borrow.Author.Tests.{eqb-true}
 use Rattle.laws.proofs.Cases.{either}
 use Rattle.securities.specs.Position.{worth, nominalsOf}
-use Rattle.book.specs.Layout.{today, ages, inUse, exposures, positions}
+use Rattle.book.specs.Layout.{today, greatestAges, inUse, exposureAmounts, positions}
 use Rattle.book.specs.State.{State, state, columnsOf}
 use Rattle.eligibility.specs.Fresh.{FreshBaskets, SamePrices}
 use Rattle.eligibility.proofs.Fresh.{fresh-same}
@@ -35,9 +35,9 @@ missing-same {s} {t} e b a =
     let k = amounts-kept b e in
     let row : positionOf t e ≡ positionOf s e = filled-same (λ i. t positions (64 * e + i)) (λ i. s positions (64 * e + i)) 64 64 a in
     let value : valueOf t e ≡ valueOf s e = ap (λ (c : List ℕ). worth c (nominalsOf (positionOf t e))) (columns-kept b) ∙ ap (λ (r : List ℕ). worth (columnsOf s) (nominalsOf r)) row in
-    ap (λ (u : ℕ). cond (eqb u 1) (t exposures e - valueOf t e) 0) (k .0)
+    ap (λ (u : ℕ). cond (eqb u 1) (t exposureAmounts e - valueOf t e) 0) (k .0)
     ∙ ap (λ (x : ℕ). cond (eqb (s inUse e) 1) (x - valueOf t e) 0) (k .1)
-    ∙ ap (λ (v : ℕ). cond (eqb (s inUse e) 1) (s exposures e - v) 0) value
+    ∙ ap (λ (v : ℕ). cond (eqb (s inUse e) 1) (s exposureAmounts e - v) 0) value
 
 bonds-between : {s t u : State} → Bonds s t → Bonds s u → Bonds t u
 bonds-between b c = record { others = λ g j a p. c .others g j a p ∙ sym (b .others g j a p) }
@@ -57,7 +57,7 @@ pass-prices {step} p s n =
     record {
       columns = columns-kept b;
       day = b .others today 0 (λ q. omega arith) (λ q. omega arith);
-      ages-kept = λ j. b .others ages j (λ q. omega arith) (λ q. omega arith);
+      ages-kept = λ j. b .others greatestAges j (λ q. omega arith) (λ q. omega arith);
     }
 
 pub passed-fresh : {step : State → ℕ → State} → Passable step → (n : ℕ) {s t : State} {since : List ℕ} → t ≡ onExposures step n s → FreshBaskets s since → FreshBaskets t since

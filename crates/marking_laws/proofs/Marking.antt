@@ -13,15 +13,15 @@ use lib.ListN.{take, drop}
 use borrow.Author.Tests.{eqb-true, ltb-true, ltb-false, not-false}
 use Rattle.laws.proofs.Cases.{either}
 use Rattle.laws.proofs.Filled.{filled-at}
-use Rattle.book.specs.Layout.{lots, inUse, exposureGivers, exposures, positions}
+use Rattle.book.specs.Layout.{lots, inUse, exposureGivers, exposureAmounts, positions}
 use Rattle.book.specs.State.{State}
 use Rattle.records.specs.Writing.{areLegal}
 use Rattle.rules.specs.Codes.{recallRules}
 use Rattle.facts.proofs.Sums.{allNoted}
 use Rattle.rules.specs.Marking.{onExposures, ineligibleOf, ineligibleBack, excessBack, shortfallIn, givenBack, searched, marked, oneNominal, recalled, substitutes, substituted, recall}
-use Rattle.rules.specs.Outcome.{lowest, field}
-use Rattle.rules.specs.Sound.{holding}
-use Rattle.rules.specs.Stock.{eligibleFor, securitySetUp, valueOf, freeFor, pickFor, pledge, giveBack}
+use Rattle.rules.specs.Outcome.{lowest}
+use Rattle.rules.specs.Fields.{field}
+use Rattle.rules.specs.Stock.{eligibleFor, securitySetUp, valueOf, freeFor, pickFor, pledge, giveBack, holding}
 use Rattle.facts.proofs.Facts.{Sound}
 use Rattle.facts.proofs.Keeps.{Good, Keeps}
 use Rattle.facts.proofs.Rows.{position-facts}
@@ -60,7 +60,7 @@ module _ (s : State) (e : ℕ) (h : Good s) (below : e < 64) (u : s inUse e ≡ 
   kept-back : (n : List ℕ) → Returnable s e n → Kept s (giveBack s e n)
   kept-back n r = record { good = good-giveBack s e n h below u r; bonds = holding-giveBack s e n below u (giveBack-lowerable r) }
 
-  kept-in : (n : List ℕ) → (s exposures e ≡ 0 → ⊥) → Pledgeable s e n → Kept s (pledge s e n)
+  kept-in : (n : List ℕ) → (s exposureAmounts e ≡ 0 → ⊥) → Pledgeable s e n → Kept s (pledge s e n)
   kept-in n a p = record { good = good-pledge s e n h below u a p; bonds = holding-pledge s e n below u (pledge-lowerable p) }
 
   -- each step of the three passes
@@ -70,17 +70,17 @@ module _ (s : State) (e : ℕ) (h : Good s) (below : e < 64) (u : s inUse e ≡ 
 
   pub kept-excess : Kept s (excessBack s e)
   unfolding excessBack
-  kept-excess = kept-back (freeFor s e (s exposures e) .nominals) (free-returnable s e (s exposures e))
+  kept-excess = kept-back (freeFor s e (s exposureAmounts e) .nominals) (free-returnable s e (s exposureAmounts e))
 
   pub kept-shortfall : Kept s (shortfallIn s e)
   unfolding shortfallIn
   kept-shortfall =
-      let missing = s exposures e - valueOf s e in
+      let missing = s exposureAmounts e - valueOf s e in
       ⊎-elim
-      (λ q. let l = ltb-true (valueOf s e) (s exposures e) q in
+      (λ q. let l = ltb-true (valueOf s e) (s exposureAmounts e) q in
       rw q (kept-in (pickFor s e (eligibleFor s e) missing .nominals) (λ z. omega arith) (pick-pledgeable s e (eligibleFor s e) missing)))
       (λ q. rw q (kept-none s h))
-      (either (ltb (valueOf s e) (s exposures e)))
+      (either (ltb (valueOf s e) (s exposureAmounts e)))
 
 -- each touches its own exposure's position alone
 pub own-ineligible : Local ineligibleBack
@@ -89,15 +89,15 @@ own-ineligible s e = own-giveBack s e (ineligibleOf s e)
 
 pub own-excess : Local excessBack
 unfolding excessBack
-own-excess s e = own-giveBack s e (freeFor s e (s exposures e) .nominals)
+own-excess s e = own-giveBack s e (freeFor s e (s exposureAmounts e) .nominals)
 
 pub own-shortfall : Local shortfallIn
 unfolding shortfallIn
 own-shortfall s e =
     ⊎-elim
-    (λ q. rw q (own-pledge s e (pickFor s e (eligibleFor s e) (s exposures e - valueOf s e) .nominals)))
+    (λ q. rw q (own-pledge s e (pickFor s e (eligibleFor s e) (s exposureAmounts e - valueOf s e) .nominals)))
     (λ q. rw q (own-none e s))
-    (either (ltb (valueOf s e) (s exposures e)))
+    (either (ltb (valueOf s e) (s exposureAmounts e)))
 
 -- the steps of the first two passes only lower it
 pub ineligible-less : (s : State) (e : ℕ) → NoMore s (ineligibleBack s e) e
@@ -106,7 +106,7 @@ ineligible-less s e = given-less s e (ineligibleOf s e)
 
 pub excess-less : (s : State) (e : ℕ) → NoMore s (excessBack s e) e
 unfolding excessBack
-excess-less s e = given-less s e (freeFor s e (s exposures e) .nominals)
+excess-less s e = given-less s e (freeFor s e (s exposureAmounts e) .nominals)
 
 -- a pass of such steps
 module _ (step : State → ℕ → State) (keep : (t : State) (e : ℕ) → Good t → e < 64 → t inUse e ≡ 1 → Kept t (step t e)) (s : State) (h : Good s) where
@@ -135,8 +135,8 @@ module _ (s : State) where
     kept-searched = kept-then kept-givenBack (kept-pass shortfallIn kept-shortfall (givenBack s) (kept-givenBack .good) 64 (le-refl 64))
 
 -- an exposure stays in use, with its amount, where bonds alone move
-pub amounts-kept : {s t : State} → Bonds s t → (e : ℕ) → (t inUse e ≡ s inUse e) × (t exposures e ≡ s exposures e)
-amounts-kept b e = (b .others inUse e (λ q. omega arith) (λ q. omega arith), b .others exposures e (λ q. omega arith) (λ q. omega arith))
+pub amounts-kept : {s t : State} → Bonds s t → (e : ℕ) → (t inUse e ≡ s inUse e) × (t exposureAmounts e ≡ s exposureAmounts e)
+amounts-kept b e = (b .others inUse e (λ q. omega arith) (λ q. omega arith), b .others exposureAmounts e (λ q. omega arith) (λ q. omega arith))
 
 pub keeps-mark : (s : State) → Good s → Keeps s (marked s)
 unfolding marked allNoted
@@ -194,7 +194,7 @@ module _ (s : State) (r : List ℕ) where
     kept-recalled = kept-back s exposure h (omega arith) (k .used) one one-returnable
 
     -- an exposure that holds a nominal has an amount
-    amount-some : s exposures exposure ≡ 0 → ⊥
+    amount-some : s exposureAmounts exposure ≡ 0 → ⊥
     amount-some z =
         ⊎-elim
         (λ n. omega (arith, k .holds))

@@ -7,7 +7,7 @@ use Prim.Native.Nat.{ℕ, _≤_}
 use native.Mathlib.Omega.{arith}
 use Rattle.record_kinds.specs.Kinds.{kinds}
 use Rattle.records.specs.Writing.{areLegal}
-use Rattle.rules.specs.Outcome.{field}
+use Rattle.rules.specs.Fields.{field}
 use Rattle.facts.proofs.Ranges.{field-in}
 
 pub record RecallIn (r : List ℕ) : Type 0 where

@@ -14,13 +14,13 @@ use Rattle.laws.proofs.Filled.{filled-length, filled-at}
 use Rattle.baskets.specs.Basket.{eligible}
 use Rattle.picking.specs.Pick.{picked, butNot}
 use Rattle.securities.specs.Position.{worth, nominalsOf}
-use Rattle.book.specs.Layout.{today, lots, exposureGivers, exposures, accounts, positions}
+use Rattle.book.specs.Layout.{today, lots, exposureGivers, exposureAmounts, accounts, positions}
 use Rattle.book.specs.State.{State, columnsOf}
 use Rattle.bond_laws.proofs.Moving.{pledge-position, giveBack-account, giveBack-position}
 use Rattle.facts.proofs.Filled.{filled-same}
 use Rattle.facts.proofs.Stock.{account-at, position-at}
 use Rattle.rules.specs.Marking.{oneNominal, recalled, substitutes, substituted}
-use Rattle.rules.specs.Outcome.{field}
+use Rattle.rules.specs.Fields.{field}
 use Rattle.rules.specs.Stock.{accountOf, positionOf, basketOf, valueOf, pledge}
 use Rattle.marking_laws.specs.Recalled.{added, accountAfter, positionLeft}
 use Rattle.marking_laws.proofs.Moved.{Bonds, own-pledge, own-giveBack}
@@ -73,14 +73,14 @@ module _ (s : State) (r : List ℕ) (below : field r 2 < 64) where
 
   -- what is missing then, and the one Pick that finds the substitutes
   abbrev pub missingThen : ℕ
-  missingThen = s exposures exposure - worth (columnsOf s) (nominalsOf (positionLeft s r))
+  missingThen = s exposureAmounts exposure - worth (columnsOf s) (nominalsOf (positionLeft s r))
 
   pub substitutes-on-arrays : substitutes s r
       ≡ picked (columnsOf s) (accountAfter s r) (butNot (field r 2) (eligible (basketOf s exposure) (s today 0) (columnsOf s))) missingThen
   unfolding substitutes
   substitutes-on-arrays =
       let t = recalled s r in
-      ap (λ (c : List ℕ). picked c (accountOf t giver) (butNot (field r 2) (eligible (basketOf s exposure) (s today 0) c)) (s exposures exposure - worth c (nominalsOf (positionOf t exposure))))
+      ap (λ (c : List ℕ). picked c (accountOf t giver) (butNot (field r 2) (eligible (basketOf s exposure) (s today 0) c)) (s exposureAmounts exposure - worth c (nominalsOf (positionOf t exposure))))
       (columns-kept (own-giveBack s exposure one .bonds))
       ∙ rw (account-after, position-left)
 

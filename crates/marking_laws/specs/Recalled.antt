@@ -8,7 +8,7 @@ use lib.ListN.{getD, set}
 use Rattle.laws.specs.Filled.{filled}
 use Rattle.book.specs.Layout.{lots, inUse, exposureGivers, positions}
 use Rattle.book.specs.State.{State}
-use Rattle.rules.specs.Outcome.{field}
+use Rattle.rules.specs.Fields.{field}
 use Rattle.rules.specs.Stock.{securitySetUp, accountOf, positionOf}
 
 -- a nominal of one security more, or less

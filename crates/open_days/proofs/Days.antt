@@ -13,7 +13,7 @@ use Rattle.laws.specs.Search.{largest}
 use Rattle.calendar.specs.Easter.{easter}
 use Rattle.calendar.specs.Gregorian.{dayOfYear, startOf, yearOf, leapDay}
 use Rattle.calendar.specs.Target.{openDay, holiday}
-use Rattle.rules.specs.Sound.{openOrNone}
+use Rattle.rules.specs.Requests.{openOrNone}
 use Rattle.open_days.specs.Days.{OpenDays}
 
 -- 2 January 2002

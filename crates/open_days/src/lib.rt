@@ -3,7 +3,7 @@ ghost use mathlib.Core.Bool.{true};
 ghost use mathlib.Core.Path.{_≡_};
 ghost use Prim.Native.Nat.{_<_};
 ghost use Rattle.calendar.specs.Target.{openDay};
-ghost use Rattle.rules.specs.Sound.{openOrNone};
+ghost use Rattle.rules.specs.Requests.{openOrNone};
 ghost use Rattle.open_days.specs.Days.{OpenDays};
 
 // The slot of a day in a cache of 16 open days. A remainder by 16 would do as well, but makes the compiler load the day's last byte by itself.

@@ -7,7 +7,7 @@ use Prim.Native.Nat.{ℕ, _+_, _-_, _≤_, _<_}
 use native.Mathlib.Omega.{arith}
 use lib.Dec.{eqb}
 use borrow.Author.Tests.{eqb-false, eq-eqb, not-true}
-use Rattle.book.specs.Layout.{kinds, amounts, settledAmounts, partners, inUse, exposures}
+use Rattle.book.specs.Layout.{requestKinds, amounts, settledAmounts, partners, inUse, exposureAmounts}
 use Rattle.book.specs.State.{State, put, columnsOf}
 use Rattle.rules.specs.Requests.{isPaired, restOf, exposureOfFop}
 use Rattle.rules.specs.Settlement.{bothSettled}
@@ -21,7 +21,7 @@ use Rattle.pair_settlement.specs.Pairs.{PairOf, Settleable}
 -- what the numbers of a pair and of an exposure leave as it is
 module _ (s : State) (i x d y : ℕ) where
   abbrev pub noted : State
-  noted = put (bothSettled s i x) exposures d y
+  noted = put (bothSettled s i x) exposureAmounts d y
 
   pub columns-noted : columnsOf noted ≡ columnsOf s
   columns-noted = columns-same s noted (λ j. refl) (λ j. refl) (λ j. refl) (λ j. refl)
@@ -38,7 +38,7 @@ module _ {s : State} (g : Good s) where
   amount-of (fop k f) = f .amount-high
   amount-of (return k r) = r .amount-high
 
-  pub kind-of : {i : ℕ} → Kind s i → (s kinds i ≡ 7 → ⊥) → s kinds i ≡ 6
+  pub kind-of : {i : ℕ} → Kind s i → (s requestKinds i ≡ 7 → ⊥) → s requestKinds i ≡ 6
   kind-of (fop k f) n = k
   kind-of (return k r) n = absurd (n k)
 
@@ -68,12 +68,12 @@ module _ {s : State} (g : Good s) where
         }
 
   pub return-pair : {i : ℕ} → PairOf s 7 i → Return s i
-  return-pair {i} p = return-names s i g (p .below) (p .used) (p .paired) (eq-eqb (s kinds i) 7 (p .kind-is))
+  return-pair {i} p = return-names s i g (p .below) (p .used) (p .paired) (eq-eqb (s requestKinds i) 7 (p .kind-is))
 
   pub fop-pair : {i : ℕ} → PairOf s 6 i → exposureOfFop s i < 64
-  fop-pair {i} p = fop-below s i g (p .below) (p .used) (p .paired) (eq-eqb (s kinds i) 6 (p .kind-is))
+  fop-pair {i} p = fop-below s i g (p .below) (p .used) (p .paired) (eq-eqb (s requestKinds i) 6 (p .kind-is))
 
-  pub exposure-le : (e : ℕ) → e < 64 → s inUse e ≡ 1 → s exposures e ≤ 10000000000000
+  pub exposure-le : (e : ℕ) → e < 64 → s inUse e ≡ 1 → s exposureAmounts e ≤ 10000000000000
   exposure-le e l u = used-exposure s e (g .facts .exposure e l) u .amount
 
 -- the partner's row by the number that names it

@@ -4,7 +4,7 @@ use mathlib.Core.Path.{_≡_}
 use mathlib.Core.Bool.{true, cond}
 use Prim.Native.Nat.{ℕ, _+_, _-_, _≤_, _<_}
 use lib.Dec.{eqb, ltb}
-use Rattle.book.specs.Layout.{tolerance, kinds, settledAmounts, partners, pairPartials}
+use Rattle.book.specs.Layout.{tolerance, requestKinds, settledAmounts, partners, pairPartials}
 use Rattle.book.specs.State.{State}
 use Rattle.rules.specs.Requests.{isUsed, isPaired, partnerOf}
 use Rattle.rules.specs.Settlement.{returnAmount, returnSettled, fopAmount, fopSettled}
@@ -14,7 +14,7 @@ pub record PairOf (s : State) (kind i : ℕ) : Type 0 where
   pub below : i < 256
   pub used : isUsed s i ≡ true
   pub paired : isPaired s i ≡ true
-  pub kind-is : s kinds i ≡ kind
+  pub kind-is : s requestKinds i ≡ kind
 
 -- both rows can take so much more
 pub record Settleable (s : State) (i x : ℕ) : Type 0 where

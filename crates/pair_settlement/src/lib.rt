@@ -3,17 +3,17 @@ ghost use mathlib.Core.Path.{_≡_};
 ghost use Prim.Native.Nat.{_<_, _≤_};
 ghost use lib.ListN.{length};
 ghost use Rattle.eligibility.specs.Fresh.{FreshBaskets};
-ghost use Rattle.book.specs.Layout.{settledAmounts, amounts, exposures, bookLength};
+ghost use Rattle.book.specs.Layout.{settledAmounts, amounts, exposureAmounts, bookLength};
 ghost use Rattle.book.specs.State.{state, put, columnsOf};
 ghost use Rattle.facts.proofs.Keeps.{Good};
 ghost use Rattle.rules.specs.Requests.{restOf, exposureOfFop};
 ghost use Rattle.rules.specs.Settlement.{bothSettled, returnAmount, fopAmount};
 ghost use Rattle.pair_settlement.specs.Pairs.{PairOf, Settleable, amountFor, returnLeft, fopLeft};
 use book::layout::AMOUNTS;
+use book::layout::BASKETS_OR_EXPOSURES;
 use book::layout::CLOSINGS;
-use book::layout::EXPOSURES;
+use book::layout::EXPOSURE_AMOUNTS;
 use book::layout::GIVERS;
-use book::layout::OBJECTS;
 use book::layout::PAIR_PARTIALS;
 use book::layout::PARTNERS;
 use book::layout::SETTLED_AMOUNTS;
@@ -31,14 +31,14 @@ fn rest_of(book: &[u8], i: usize) -> u64
 // Both rows of a pair have settled so much more, and the exposure has a new amount.
 fn note_settled(book: &mut [u8], i: usize, x: u64, e: usize, exposure: u64)
     requires { ⌜ (length (now book) ≡ bookLength) × Settleable (state (now book)) i x × (e < 64) ⌝ }
-    ensures { λ _. ⌜ state (now (book .exit)) ≡ put (bothSettled (state (now (book .entry))) i x) exposures e exposure ⌝ }
+    ensures { λ _. ⌜ state (now (book .exit)) ≡ put (bothSettled (state (now (book .entry))) i x) exposureAmounts e exposure ⌝ }
 {
     let j = (book::get(book, PARTNERS, i) - 1) as usize;
     let own = book::get(book, SETTLED_AMOUNTS, i);
     let other = book::get(book, SETTLED_AMOUNTS, j);
     book::set(book, SETTLED_AMOUNTS, i, own + x);
     book::set(book, SETTLED_AMOUNTS, j, other + x);
-    book::set(book, EXPOSURES, e, exposure);
+    book::set(book, EXPOSURE_AMOUNTS, e, exposure);
 }
 
 // Settles a return: the lesser of its rest and the exposure, which is lowered and freed. The cents settled.
@@ -46,8 +46,8 @@ pub fn settle_return(book: &mut [u8], columns: &[u64; 256], i: usize) -> u64
     requires { ⌜ (length (now book) ≡ bookLength) × Good (state (now book)) × PairOf (state (now book)) 7 i × (now columns ≡ columnsOf (state (now book))) ⌝ }
     ensures { λ r. ⌜ (r ≡ returnAmount (state (now (book .entry))) i) × (state (now (book .exit)) ≡ returnLeft (state (now (book .entry))) i) ⌝ }
 {
-    let e = book::get(book, OBJECTS, i) as usize;
-    let exposure = book::get(book, EXPOSURES, e);
+    let e = book::get(book, BASKETS_OR_EXPOSURES, i) as usize;
+    let exposure = book::get(book, EXPOSURE_AMOUNTS, e);
     let x = parcels::smaller(rest_of(book, i), exposure);
     if x == 0 {
         return 0;
@@ -66,7 +66,7 @@ fn exposure_of_fop(book: &[u8], i: usize) -> usize
         book,
         book::get(book, GIVERS, i),
         book::get(book, TAKERS, i),
-        book::get(book, OBJECTS, i),
+        book::get(book, BASKETS_OR_EXPOSURES, i),
         book::get(book, CLOSINGS, i),
     )
 }
@@ -93,7 +93,7 @@ pub fn settle_fop(book: &mut [u8], columns: &[u64; 256], since: &[u64; 16], i: u
     ensures { λ r. ⌜ (r ≡ fopAmount (state (now (book .entry))) i) × (state (now (book .exit)) ≡ fopLeft (state (now (book .entry))) i) ⌝ }
 {
     let e = exposure_of_fop(book, i);
-    let exposure = book::get(book, EXPOSURES, e);
+    let exposure = book::get(book, EXPOSURE_AMOUNTS, e);
     let rest = rest_of(book, i);
     if 10000000000000 < exposure + rest {
         return 0;

@@ -11,13 +11,13 @@ use borrow.Author.Tests.{ne-eqb, le-leb, lt-leb}
 use Rattle.laws.specs.Filled.{filled}
 use Rattle.baskets.specs.Report.{report}
 use Rattle.baskets.specs.declared.Report as declared
-use Rattle.book.specs.Layout.{numbers, maps, ages, accounts, positions, exposureGivers, exposureTakers, exposureBaskets, exposureClosings, exposures}
+use Rattle.book.specs.Layout.{numbers, maps, greatestAges, accounts, positions, exposureGivers, exposureTakers, exposureBaskets, exposureClosings, exposureAmounts}
 use Rattle.book.specs.State.{State, state}
 use Rattle.rules.specs.Outcome.{lowest}
 use Rattle.rules.specs.Reads.{account, position, exposure, request, basket, rowOf, readRules, readAnswer}
 use Rattle.rules.specs.Requests.{isUsed}
 use Rattle.facts.proofs.Searches.{least-le}
-use Rattle.reads.specs.Entries.{bookCode, requestNumber}
+use Rattle.reads.specs.Entries.{damageCode, requestNumber}
 use Rattle.reads.proofs.Returns.{book-refused, read-refused, read-accepted}
 
 -- a read that is accepted names numbers in their ranges
@@ -42,7 +42,7 @@ module _ (s : State) (x : ℕ) {c : ℕ} where
   basket-in e z = elim (decLt x 16) [ yes l ↦ l | no l ↦ absurd (let o : _≡_ {A = ℕ} 4 0 = rw (le-leb 16 x (omega arith)) at (sym e ∙ z) in omega arith) ]
 
 -- a damaged book
-module _ (b : List ℕ) {x : ℕ} (e : x ≡ bookCode b) (n : x ≡ 0 → ⊥) where
+module _ (b : List ℕ) {x : ℕ} (e : x ≡ damageCode b) (n : x ≡ 0 → ⊥) where
   pub account-damaged : (p i : ℕ) → x ∷ 0 ∷ [] ≡ readAnswer b (account p i)
   account-damaged p i = book-refused b (account p i) e n
 
@@ -59,7 +59,7 @@ module _ (b : List ℕ) {x : ℕ} (e : x ≡ bookCode b) (n : x ≡ 0 → ⊥) w
   request-damaged y = book-refused b (request y) e n
 
 -- a sound one
-module _ (b : List ℕ) {x : ℕ} (e : x ≡ bookCode b) (z : x ≡ 0) {c : ℕ} where
+module _ (b : List ℕ) {x : ℕ} (e : x ≡ damageCode b) (z : x ≡ 0) {c : ℕ} where
   pub account-refused : (p i : ℕ) → c ≡ lowest (readRules (state b) (account p i)) → (c ≡ 0 → ⊥) → c ∷ 0 ∷ [] ≡ readAnswer b (account p i)
   account-refused p i g n = read-refused b (account p i) e z g n
 
@@ -76,14 +76,14 @@ module _ (b : List ℕ) {x : ℕ} (e : x ≡ bookCode b) (z : x ≡ 0) {c : ℕ}
   exposure-refused y g n = read-refused b (exposure y) e z g n
 
   pub exposure-read : (y : ℕ) {q r s t u : ℕ} → c ≡ lowest (readRules (state b) (exposure y)) → c ≡ 0
-      → q ≡ state b exposureGivers y → r ≡ state b exposureTakers y → s ≡ state b exposureBaskets y → t ≡ state b exposureClosings y → u ≡ state b exposures y
+      → q ≡ state b exposureGivers y → r ≡ state b exposureTakers y → s ≡ state b exposureBaskets y → t ≡ state b exposureClosings y → u ≡ state b exposureAmounts y
       → 0 ∷ q ∷ r ∷ s ∷ t ∷ u ∷ [] ≡ readAnswer b (exposure y)
   exposure-read y g o f1 f2 f3 f4 f5 = rw (f1, f2, f3, f4, f5) (read-accepted b (exposure y) e z g o)
 
   pub basket-refused : (y : ℕ) → c ≡ lowest (readRules (state b) (basket y)) → (c ≡ 0 → ⊥) → c ∷ 0 ∷ 0 ∷ 0 ∷ 0 ∷ [] ≡ readAnswer b (basket y)
   basket-refused y g n = read-refused b (basket y) e z g n
 
-  pub basket-read : (y : ℕ) {m a : ℕ} (r : declared.Report) → c ≡ lowest (readRules (state b) (basket y)) → c ≡ 0 → y < 16 → m ≡ state b maps y → a ≡ state b ages y → r ≡ report m
+  pub basket-read : (y : ℕ) {m a : ℕ} (r : declared.Report) → c ≡ lowest (readRules (state b) (basket y)) → c ≡ 0 → y < 16 → m ≡ state b maps y → a ≡ state b greatestAges y → r ≡ report m
       → 0 ∷ m ∷ a ∷ r .count ∷ r .lowest ∷ [] ≡ readAnswer b (basket y)
   unfolding report
   basket-read y {m} r g o l f1 f2 f3 =
@@ -94,7 +94,7 @@ module _ (b : List ℕ) {x : ℕ} (e : x ≡ bookCode b) (z : x ≡ 0) {c : ℕ}
 pub row-near : (s : State) (n : ℕ) {i : ℕ} → i ≡ rowOf s n → (i ≡ 256 → ⊥) → i < 256
 row-near s n e m = omega (arith, least-le (λ i. isUsed s i && eqb (s numbers i) n) 256 0)
 
-module _ (b : List ℕ) (n : ℕ) {x i : ℕ} (e : x ≡ bookCode b) (z : x ≡ 0) (f : i ≡ rowOf (state b) n) where
+module _ (b : List ℕ) (n : ℕ) {x i : ℕ} (e : x ≡ damageCode b) (z : x ≡ 0) (f : i ≡ rowOf (state b) n) where
   pub request-refused : i ≡ 256 → 5 ∷ 0 ∷ 0 ∷ 0 ∷ 0 ∷ 0 ∷ 0 ∷ 0 ∷ 0 ∷ 0 ∷ 0 ∷ 0 ∷ 0 ∷ 0 ∷ 0 ∷ [] ≡ readAnswer b (request n)
   request-refused h = read-refused b (request n) e z {c = 5} (rw (sym f ∙ h)) (λ w. omega arith)
 

@@ -15,7 +15,7 @@ use Rattle.laws.proofs.Cases.{either}
 use Rattle.laws.proofs.Filled.{rules-along}
 use Rattle.laws.proofs.Least.{least-here, least-on, least-end, least-miss}
 use Rattle.baskets.specs.Report.{report}
-use Rattle.book.specs.Layout.{bookLength, rowsOf, lots, modes, maps, ages, numbers, partners, inUse, accounts, positions, exposureGivers, exposureTakers, exposureBaskets, exposureClosings, exposures}
+use Rattle.book.specs.Layout.{bookLength, rowsOf, lots, modes, maps, greatestAges, numbers, partners, inUse, accounts, positions, exposureGivers, exposureTakers, exposureBaskets, exposureClosings, exposureAmounts}
 use Rattle.book.specs.State.{State, state}
 use Rattle.rules.specs.Outcome.{lowest}
 use Rattle.rules.specs.Reads.{Read, account, position, exposure, request, basket, rowOf, partnerNumber, readRules, readCode, readValues, readAnswer}
@@ -23,34 +23,34 @@ use Rattle.rules.specs.Requests.{isUsed, isPaired}
 use Rattle.rules.specs.Sound.{sound}
 use Rattle.facts.proofs.Facts.{sound-facts}
 use Rattle.facts.proofs.Rows.{used-paired, unused-blank}
-use Rattle.reads.specs.Entries.{bookCode, requestNumber}
+use Rattle.reads.specs.Entries.{damageCode, requestNumber}
 
 -- the book: its length, then its soundness
 module _ (b : List ℕ) where
-  pub other-length : (length b ≡ 49152 → ⊥) → 1 ≡ bookCode b
+  pub other-length : (length b ≡ 49152 → ⊥) → 1 ≡ damageCode b
   other-length n = rw (ne-eqb (length b) 49152 n)
 
   module _ (long : length b ≡ 49152) {t : Bool} (e : t ≡ sound (state b)) where
-    pub not-sound : not t ≡ true → 2 ≡ bookCode b
+    pub not-sound : not t ≡ true → 2 ≡ damageCode b
     not-sound f = rw (long, sym e ∙ not-true t f)
 
-    pub book-accepted : not t ≡ false → 0 ≡ bookCode b
+    pub book-accepted : not t ≡ false → 0 ≡ damageCode b
     book-accepted f = rw (long, sym e ∙ not-false t f)
 
   -- and what an accepted book is
   code-long : Bool → Type 0
-  code-long t = t ≡ eqb (length b) bookLength → bookCode b ≡ 0 → length b ≡ bookLength
+  code-long t = t ≡ eqb (length b) bookLength → damageCode b ≡ 0 → length b ≡ bookLength
 
   by-length : (t : Bool) → code-long t
   unfolding code-long
   by-length true e z = eqb-true (length b) bookLength (sym e)
   by-length false e z = absurd (let o : _≡_ {A = ℕ} 1 0 = rw (sym e) at z in omega arith)
 
-  pub accepted-length : {x : ℕ} → x ≡ bookCode b → x ≡ 0 → length b ≡ bookLength
+  pub accepted-length : {x : ℕ} → x ≡ damageCode b → x ≡ 0 → length b ≡ bookLength
   unfolding code-long
   accepted-length e z = by-length (eqb (length b) bookLength) refl (sym e ∙ z)
 
-  pub accepted-sound : {x : ℕ} → x ≡ bookCode b → x ≡ 0 → sound (state b) ≡ true
+  pub accepted-sound : {x : ℕ} → x ≡ damageCode b → x ≡ 0 → sound (state b) ≡ true
   accepted-sound e z =
       let l = accepted-length e z in
       let c : _≡_ {A = ℕ} (cond (not (sound (state b))) 2 0) 0 = rw l at (sym e ∙ z) in
@@ -58,12 +58,12 @@ module _ (b : List ℕ) where
 
 -- the whole answer, refused and accepted
 module _ (b : List ℕ) (q : Read) where
-  code-of : {x : ℕ} → x ≡ bookCode b → x ≡ 0 → readCode b q ≡ lowest (readRules (state b) q)
+  code-of : {x : ℕ} → x ≡ damageCode b → x ≡ 0 → readCode b q ≡ lowest (readRules (state b) q)
   unfolding readCode
   code-of e z = rw (accepted-length b e z, accepted-sound b e z)
 
   -- by the book
-  damaged : {x : ℕ} → x ≡ bookCode b → (x ≡ 0 → ⊥) → readCode b q ≡ x
+  damaged : {x : ℕ} → x ≡ damageCode b → (x ≡ 0 → ⊥) → readCode b q ≡ x
   unfolding readCode
   damaged {x} e n =
       ⊎-elim
@@ -79,11 +79,11 @@ module _ (b : List ℕ) (q : Read) where
   unfolding readAnswer
   refused {x} e n = rw (e, ne-eqb x 0 n)
 
-  pub book-refused : {x : ℕ} → x ≡ bookCode b → (x ≡ 0 → ⊥) → x ∷ replicate (length (readValues (state b) q)) 0 ≡ readAnswer b q
+  pub book-refused : {x : ℕ} → x ≡ damageCode b → (x ≡ 0 → ⊥) → x ∷ replicate (length (readValues (state b) q)) 0 ≡ readAnswer b q
   book-refused e n = refused (damaged e n) n
 
   -- by the rules
-  module _ {x : ℕ} (e : x ≡ bookCode b) (z : x ≡ 0) {c : ℕ} (g : c ≡ lowest (readRules (state b) q)) where
+  module _ {x : ℕ} (e : x ≡ damageCode b) (z : x ≡ 0) {c : ℕ} (g : c ≡ lowest (readRules (state b) q)) where
     pub read-refused : (c ≡ 0 → ⊥) → c ∷ replicate (length (readValues (state b) q)) 0 ≡ readAnswer b q
     read-refused n = refused (code-of e z ∙ sym g) n
 

@@ -11,8 +11,8 @@ use Rattle.rules.specs.Reads.{partnerNumber}
 use Rattle.rules.specs.Sound.{sound}
 
 -- 1: book of another length; 2: book not sound; else 0
-abbrev pub bookCode : List ℕ → ℕ
-bookCode book = cond (not (eqb (length book) bookLength)) 1 (cond (not (sound (state book))) 2 0)
+abbrev pub damageCode : List ℕ → ℕ
+damageCode book = cond (not (eqb (length book) bookLength)) 1 (cond (not (sound (state book))) 2 0)
 
 -- the number k of the answer of an accepted read of a request: code 0, then the tables from the kinds on in their order, but the
 -- partner by its number

@@ -10,14 +10,14 @@ ghost use Rattle.book.specs.State.{state};
 ghost use Rattle.rules.specs.Outcome.{lowest};
 ghost use Rattle.rules.specs.Reads.{account, position, exposure, request, basket, rowOf, readRules, readCode, readAnswer, partnerNumber};
 ghost use Rattle.rules.specs.Sound.{sound};
-ghost use Rattle.reads.specs.Entries.{bookCode, requestNumber};
+ghost use Rattle.reads.specs.Entries.{damageCode, requestNumber};
 use book::layout::ACCOUNTS;
-use book::layout::AGES;
+use book::layout::EXPOSURE_AMOUNTS;
 use book::layout::EXPOSURE_BASKETS;
 use book::layout::EXPOSURE_CLOSINGS;
 use book::layout::EXPOSURE_GIVERS;
 use book::layout::EXPOSURE_TAKERS;
-use book::layout::EXPOSURES;
+use book::layout::GREATEST_AGES;
 use book::layout::IN_USE;
 use book::layout::LOTS;
 use book::layout::MAPS;
@@ -28,7 +28,7 @@ use book::layout::POSITIONS;
 
 // 1 for a book of another length, 2 for one that is not sound, else 0.
 pub fn book_code(book: &[u8]) -> u64
-    ensures { λ r. ⌜ r ≡ bookCode (now (book .entry)) ⌝ }
+    ensures { λ r. ⌜ r ≡ damageCode (now (book .entry)) ⌝ }
 {
     if book.len() != 49152 {
         return 1;
@@ -223,7 +223,7 @@ pub extern "C" fn reads_exposure(book: &[u8], e: u64, answer: &mut [u64; 6])
     let taker = book::get(book, EXPOSURE_TAKERS, i);
     let basket = book::get(book, EXPOSURE_BASKETS, i);
     let closing = book::get(book, EXPOSURE_CLOSINGS, i);
-    let amount = book::get(book, EXPOSURES, i);
+    let amount = book::get(book, EXPOSURE_AMOUNTS, i);
     *answer = [0, giver, taker, basket, closing, amount];
 }
 
@@ -243,7 +243,7 @@ pub extern "C" fn reads_basket(book: &[u8], b: u64, answer: &mut [u64; 5])
         return;
     }
     let map = book::get(book, MAPS, b as usize);
-    let age = book::get(book, AGES, b as usize);
+    let age = book::get(book, GREATEST_AGES, b as usize);
     let report = baskets::baskets_report(map);
     *answer = [0, map, age, report.count, report.lowest];
 }

@@ -14,7 +14,8 @@ use Rattle.book.specs.State.{State, state}
 use Rattle.rules.specs.Codes.{recallRules}
 use Rattle.records.specs.Writing.{areLegal}
 use Rattle.rules.specs.Marking.{oneNominal, recalled, substitutes, substituted, recallAccepted, recall}
-use Rattle.rules.specs.Outcome.{Rule, lowest, field}
+use Rattle.rules.specs.Outcome.{Rule, lowest}
+use Rattle.rules.specs.Fields.{field}
 use Rattle.rules.specs.Sound.{sound}
 use Rattle.rules.specs.Stock.{participantSetUp, pledge}
 use Rattle.totals.specs.Totals.{totalsOf}

@@ -16,7 +16,7 @@ use Rattle.rules.specs.Requests.{acceptsGiver, exposureWith, freeExposure}
 use Rattle.rules.specs.Requesting.{takerFollows, rowsNeeded, earliestEqual, pairsNow}
 use Rattle.facts.proofs.Rules.{stops, goes-on}
 use Rattle.request_search.specs.Rows.{rowsFree}
-use Rattle.request_codes.specs.Rules.{partyRules, basketRules, settlementRules, closingRules, takerRules, rowRules, exposureRules, fopNameRules, namesExposure}
+use Rattle.request_codes.specs.Rules.{partyRules, basketNameRules, settlementRules, closingRules, takerRules, rowRules, exposureRules, fopNameRules, namesExposure}
 
 -- 5: the parties
 module _ (s : State) (r : List ℕ) {x : ℕ} (xq : x ≡ s modes (getD r 1 0)) where
@@ -31,10 +31,10 @@ module _ (s : State) (r : List ℕ) {x : ℕ} (xq : x ≡ s modes (getD r 1 0)) 
 
 -- 5: the basket
 module _ (s : State) (r : List ℕ) {x : ℕ} (xq : x ≡ s maps (getD r 3 0)) where
-  pub no-basket : x ≡ 0 → 5 ≡ lowest (basketRules s r)
+  pub no-basket : x ≡ 0 → 5 ≡ lowest (basketNameRules s r)
   no-basket h = rw (← xq, eq-eqb x 0 h)
 
-  pub basket-known : (x ≡ 0 → ⊥) → 0 ≡ lowest (basketRules s r)
+  pub basket-known : (x ≡ 0 → ⊥) → 0 ≡ lowest (basketNameRules s r)
   basket-known h = rw (← xq, ne-eqb x 0 h)
 
 -- 7: the settlement day
@@ -126,18 +126,18 @@ module _ (s : State) (r : List ℕ) {e : ℕ} (eq : e ≡ freeExposure s) where
 -- 5 and 7 of a FOP, group after group
 module _ (s : State) (r : List ℕ) {p : ℕ} (pq : p ≡ lowest (partyRules s r)) where
   abbrev names : List Rule
-  names = basketRules s r ++ (settlementRules s r ++ closingRules r)
+  names = basketNameRules s r ++ (settlementRules s r ++ closingRules r)
 
   pub name-party : (p ≡ 0 → ⊥) → p ≡ lowest (fopNameRules s r)
   name-party h = stops (partyRules s r) names pq h
 
-  module _ (pz : p ≡ 0) {b : ℕ} (bq : b ≡ lowest (basketRules s r)) where
+  module _ (pz : p ≡ 0) {b : ℕ} (bq : b ≡ lowest (basketNameRules s r)) where
     pub name-basket : (b ≡ 0 → ⊥) → b ≡ lowest (fopNameRules s r)
-    name-basket h = goes-on (partyRules s r) names refl pq pz (stops (basketRules s r) (settlementRules s r ++ closingRules r) bq h)
+    name-basket h = goes-on (partyRules s r) names refl pq pz (stops (basketNameRules s r) (settlementRules s r ++ closingRules r) bq h)
 
     module _ (bz : b ≡ 0) {d : ℕ} (dq : d ≡ lowest (settlementRules s r)) where
       after-basket : {x : ℕ} → x ≡ lowest (settlementRules s r ++ closingRules r) → x ≡ lowest (fopNameRules s r)
-      after-basket h = goes-on (partyRules s r) names refl pq pz (goes-on (basketRules s r) (settlementRules s r ++ closingRules r) refl bq bz h)
+      after-basket h = goes-on (partyRules s r) names refl pq pz (goes-on (basketNameRules s r) (settlementRules s r ++ closingRules r) refl bq bz h)
 
       pub name-settlement : (d ≡ 0 → ⊥) → d ≡ lowest (fopNameRules s r)
       name-settlement h = after-basket (stops (settlementRules s r) (closingRules r) dq h)

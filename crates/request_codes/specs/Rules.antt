@@ -10,14 +10,15 @@ use Rattle.book.specs.State.{State}
 use Rattle.rules.specs.Codes.{noParticipant, noBasket, dayNotOpen, giverIsTaker, takerNeedsNone, tooFewRows}
 use Rattle.rules.specs.Outcome.{Rule, rule}
 use Rattle.rules.specs.Requests.{freeExposure}
-use Rattle.rules.specs.Requesting.{giverIn, takerIn, objectIn, settlementIn, closingIn, needsExposure}
+use Rattle.rules.specs.Requesting.{needsExposure}
+use Rattle.rules.specs.Fields.{giverIn, takerIn, basketOrExposureIn, settlementIn, closingIn}
 
 -- 5: the parties; of a FOP the basket too
 abbrev pub partyRules : State → List ℕ → List Rule
 partyRules s r = noParticipant s (giverIn r) ∷ noParticipant s (takerIn r) ∷ []
 
-abbrev pub basketRules : State → List ℕ → List Rule
-basketRules s r = noBasket s (objectIn r) ∷ []
+abbrev pub basketNameRules : State → List ℕ → List Rule
+basketNameRules s r = noBasket s (basketOrExposureIn r) ∷ []
 
 -- 7: the settlement day; of a FOP the closing day too
 abbrev pub settlementRules : State → List ℕ → List Rule
@@ -28,7 +29,7 @@ closingRules r = rule (not (eqb (closingIn 6 r) 0) && (not (openDay (closingIn 6
 
 -- 5 and 7 of a FOP
 abbrev pub fopNameRules : State → List ℕ → List Rule
-fopNameRules s r = partyRules s r ++ (basketRules s r ++ (settlementRules s r ++ closingRules r))
+fopNameRules s r = partyRules s r ++ (basketNameRules s r ++ (settlementRules s r ++ closingRules r))
 
 -- 8 and 9: the taker is another than the giver, and has to enter a request of its own
 abbrev pub takerRules : State → List ℕ → List Rule
@@ -45,4 +46,4 @@ exposureRules s r = rule (needsExposure s 6 r && eqb (freeExposure s) 64) 15 ∷
 -- the exposure that a return's record names is used, with its giver and taker
 abbrev pub namesExposure : State → List ℕ → Bool
 namesExposure s r =
-    eqb (s inUse (objectIn r)) 1 && (eqb (s exposureGivers (objectIn r)) (giverIn r) && eqb (s exposureTakers (objectIn r)) (takerIn r))
+    eqb (s inUse (basketOrExposureIn r)) 1 && (eqb (s exposureGivers (basketOrExposureIn r)) (giverIn r) && eqb (s exposureTakers (basketOrExposureIn r)) (takerIn r))

@@ -5,9 +5,10 @@ ghost use lib.ListN.{length};
 ghost use Rattle.book.specs.Layout.{bookLength};
 ghost use Rattle.book.specs.State.{state};
 ghost use Rattle.rules.specs.Outcome.{lowest};
-ghost use Rattle.rules.specs.Requesting.{objectIn, pairsNow, rowsNeeded};
+ghost use Rattle.rules.specs.Requesting.{pairsNow, rowsNeeded};
+ghost use Rattle.rules.specs.Fields.{basketOrExposureIn};
 ghost use Rattle.request_search.specs.Ranges.{RequestIn};
-ghost use Rattle.request_codes.specs.Rules.{partyRules, basketRules, settlementRules, closingRules, takerRules, rowRules, exposureRules, fopNameRules, namesExposure};
+ghost use Rattle.request_codes.specs.Rules.{partyRules, basketNameRules, settlementRules, closingRules, takerRules, rowRules, exposureRules, fopNameRules, namesExposure};
 use book::layout::EXPOSURE_GIVERS;
 use book::layout::EXPOSURE_TAKERS;
 use book::layout::IN_USE;
@@ -32,8 +33,8 @@ pub fn party_code(book: &[u8], fields: &[u64; 8]) -> u64
 
 // 5 where a FOP's basket is not set up, else 0.
 fn basket_code(book: &[u8], fields: &[u64; 8]) -> u64
-    requires { ⌜ (length (now book) ≡ bookLength) × (objectIn (now fields) < 16) ⌝ }
-    ensures { λ r. ⌜ r ≡ lowest (basketRules (state (now (book .entry))) (now (fields .entry))) ⌝ }
+    requires { ⌜ (length (now book) ≡ bookLength) × (basketOrExposureIn (now fields) < 16) ⌝ }
+    ensures { λ r. ⌜ r ≡ lowest (basketNameRules (state (now (book .entry))) (now (fields .entry))) ⌝ }
 {
     if book::get(book, MAPS, fields[3] as usize) == 0 {
         5
@@ -146,7 +147,7 @@ pub fn exposure_code(book: &[u8], fields: &[u64; 8]) -> u64
 
 // 5 or 7 by the names and days of a FOP, else 0.
 pub fn fop_name_code(book: &[u8], fields: &[u64; 8]) -> u64
-    requires { ⌜ (length (now book) ≡ bookLength) × RequestIn (now fields) × (objectIn (now fields) < 16) ⌝ }
+    requires { ⌜ (length (now book) ≡ bookLength) × RequestIn (now fields) × (basketOrExposureIn (now fields) < 16) ⌝ }
     ensures { λ r. ⌜ r ≡ lowest (fopNameRules (state (now (book .entry))) (now (fields .entry))) ⌝ }
 {
     let party = party_code(book, fields);

@@ -9,7 +9,8 @@ use borrow.Author.Tests.{eq-eqb, ne-eqb}
 use Rattle.book.specs.Layout.{nextNumber, numbers, partners, pairPartials}
 use Rattle.book.specs.State.{State, put}
 use Rattle.rules.specs.Requests.{exposureWith, freeExposure, freeRow}
-use Rattle.rules.specs.Requesting.{sideIn, exposureGiven, withRow, withTaker, withEqual, waiting, partialMark}
+use Rattle.rules.specs.Requesting.{exposureGiven, withRow, withTaker, withEqual, waiting, partialMark}
+use Rattle.rules.specs.Fields.{sideIn}
 use Rattle.request_rows.specs.Rows.{EntryIn, filledRow, RowTaken}
 use Rattle.request_entry.specs.Entering.{RoomForTwo, lacksExposure, ExposureRoom, withExposure}
 

@@ -17,9 +17,9 @@ use Rattle.record_kinds.specs.Kinds.{kinds}
 use Rattle.records.specs.Writing.{areLegal}
 use Rattle.rules.specs.Codes.{fopRules, returnRules}
 use Rattle.rules.specs.Outcome.{lowest}
-use Rattle.rules.specs.Requests.{freeExposure}
-use Rattle.rules.specs.Requesting.{giverIn, takerIn, objectIn, amountIn, settlementIn, closingIn, rowsNeeded, needsExposure}
-use Rattle.rules.specs.Sound.{openOrNone}
+use Rattle.rules.specs.Requests.{freeExposure, openOrNone}
+use Rattle.rules.specs.Requesting.{rowsNeeded, needsExposure}
+use Rattle.rules.specs.Fields.{giverIn, takerIn, basketOrExposureIn, amountIn, settlementIn, closingIn}
 use Rattle.rules.specs.Stock.{participantSetUp, basketSetUp}
 use Rattle.facts.proofs.Ranges.{field-in}
 use Rattle.facts.proofs.Rows.{Parties}
@@ -92,7 +92,7 @@ module _ (s : State) (r : List ℕ) where
         let none = none-applies (fopRules s r) refl accepted in
         record {
           basket-below = omega (arith, field-in 6 3 r legal (omega arith) .1);
-          basket-known = not-false (basketSetUp s (objectIn r)) (none .1 .1 .1 .0);
+          basket-known = not-false (basketSetUp s (basketOrExposureIn r)) (none .1 .1 .1 .0);
           amount-low = ltb-false (amountIn r) (s tolerance 0) (none .0);
           closing = closing-of (closingIn 6 r) (leb (closingIn 6 r) (settlementIn r)) (none .1 .1 .1 .1 .1 .1 .0);
         }
@@ -123,7 +123,7 @@ module _ (s : State) (r : List ℕ) where
     return-names : ReturnIn s r
     unfolding returnRules kinds
     return-names =
-        let o = objectIn r in
+        let o = basketOrExposureIn r in
         let none = none-applies (returnRules s r) refl accepted in
         let named = split (eqb (s inUse o) 1 ∷ eqb (s exposureGivers o) (giverIn r) ∷ eqb (s exposureTakers o) (takerIn r) ∷ [])
         (not-false (eqb (s inUse o) 1 && (eqb (s exposureGivers o) (giverIn r) && eqb (s exposureTakers o) (takerIn r))) (none .1 .1 .1 .1 .1 .1 .0)) in

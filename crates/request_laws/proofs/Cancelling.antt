@@ -15,10 +15,11 @@ use Rattle.book.specs.State.{State, put, Fits}
 use Rattle.book.proofs.Images.{put-same, put-other, put-apart, put-cases, put-fits}
 use Rattle.records.specs.Writing.{areLegal}
 use Rattle.rules.specs.Codes.{cancelRules}
-use Rattle.rules.specs.Outcome.{lowest, silent, field}
+use Rattle.rules.specs.Outcome.{lowest, silent}
+use Rattle.rules.specs.Fields.{field}
 use Rattle.rules.specs.Requests.{isUsed, isPaired, partnerOf}
 use Rattle.rules.specs.Requesting.{ownRequest, pairEnds, cancelled}
-use Rattle.rules.specs.Sound.{soundRow}
+use Rattle.rules.specs.ByRow.{soundRow}
 use Rattle.facts.proofs.Keeps.{Good, Keeps}
 use Rattle.facts.proofs.Rows.{Pair, head-facts, used-fields, unused-blank}
 use Rattle.facts.proofs.Rules.{none-applies}

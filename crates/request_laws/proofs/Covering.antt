@@ -13,10 +13,11 @@ use Rattle.laws.specs.Search.{all}
 use Rattle.laws.proofs.Cases.{either, clash, or-cases}
 use Rattle.laws.proofs.Least.{all-at}
 use Rattle.laws.proofs.Sum.{sum-same}
-use Rattle.book.specs.Layout.{today, tolerance, nextNumber, lots, prices, haircuts, quotes, modes, lists, partials, waitingModes, waitingLists, waitingPartials, maps, ages, numbers, ends, inUse, exposureGivers, exposureTakers, exposureBaskets, exposureClosings, exposures, accounts, positions, spares}
+use Rattle.book.specs.Layout.{today, tolerance, nextNumber, lots, prices, haircuts, quoteDays, modes, lists, partials, waitingModes, waitingLists, waitingPartials, maps, greatestAges, numbers, ends, inUse, exposureGivers, exposureTakers, exposureBaskets, exposureClosings, exposureAmounts, accounts, positions, spares}
 use Rattle.book.specs.State.{State}
 use Rattle.rules.specs.Requests.{hasKey, exposureWith}
-use Rattle.rules.specs.Sound.{soundRow, same, alike, differs, distinctNumber, soundExposure, otherKey, distinctKey, soundPosition, holding, positionFrom}
+use Rattle.rules.specs.Stock.{holding, positionFrom}
+use Rattle.rules.specs.ByRow.{soundRow, same, alike, differs, distinctNumber, soundExposure, otherKey, distinctKey, soundPosition}
 use Rattle.facts.proofs.Facts.{Sound, all-of}
 use Rattle.facts.proofs.Rows.{Head, Parties, Stocked, head-facts, facts-head, used-exposure, exposure-sound, no-exposure, no-exposure-sound, used-or-not, position-facts, position-none, position-stocked}
 use Rattle.facts.proofs.Truth.{split, join}
@@ -157,7 +158,7 @@ module _ {s t : State} (c : Covers s t) where
         (λ z. position-none t e i (c .left positions (64 * e + i) refl ∙ z))
         (λ (x : Stocked s e i). position-stocked t e i (record {
           used = c .exposure inUse e refl (x .used) ∙ x .used;
-          amount = rw (c .left exposures e refl) (x .amount);
+          amount = rw (c .left exposureAmounts e refl) (x .amount);
           known = rw (c .left lots i refl) (x .known);
           whole = rw (c .left positions (64 * e + i) refl, c .left lots i refl) (x .whole);
         }))
@@ -186,7 +187,7 @@ module _ {s t : State} (c : Covers s t) where
           taker = same exposureTakers refl ∙ n .taker;
           basket = same exposureBaskets refl ∙ n .basket;
           closing = same exposureClosings refl ∙ n .closing;
-          amount = c .left exposures e refl ∙ n .amount;
+          amount = c .left exposureAmounts e refl ∙ n .amount;
         }))
         (λ u. let x = used-exposure s e (h .exposure e l) u in
         exposure-sound t e (same inUse refl ∙ u) (record {
@@ -194,7 +195,7 @@ module _ {s t : State} (c : Covers s t) where
           basket-below = rw (same exposureBaskets refl) (x .basket-below);
           basket-known = rw (same exposureBaskets refl, c .left maps (s exposureBaskets e) refl) (x .basket-known);
           closing = rw (same exposureClosings refl) (x .closing);
-          amount = rw (c .left exposures e refl) (x .amount);
+          amount = rw (c .left exposureAmounts e refl) (x .amount);
         }))
         (used-or-not s e (h .exposure e l))
 
@@ -219,9 +220,9 @@ module _ {s t : State} (c : Covers s t) where
         let at : (f i : ℕ) → isLeft f ≡ true → t f i ≡ s f i = c .left in
         record {
           head = facts-head t head-kept;
-          security = λ i l. rw (at lots i refl, at prices i refl, at haircuts i refl, at quotes i refl) (h .security i l);
+          security = λ i l. rw (at lots i refl, at prices i refl, at haircuts i refl, at quoteDays i refl) (h .security i l);
           participant = λ p l. rw (at modes p refl, at lists p refl, at partials p refl, at waitingModes p refl, at waitingLists p refl, at waitingPartials p refl) (h .participant p l);
-          basket = λ b l. rw (at maps b refl, at ages b refl) (h .basket b l);
+          basket = λ b l. rw (at maps b refl, at greatestAges b refl) (h .basket b l);
           spare = λ k l. rw (at spares k refl) (h .spare k l);
           row = rows;
           number = facts-distinct t distinct;

@@ -15,7 +15,8 @@ use Rattle.records.specs.Writing.{areLegal}
 use Rattle.rules.specs.Codes.{fopRules, returnRules}
 use Rattle.rules.specs.Outcome.{lowest, given}
 use Rattle.rules.specs.Requests.{hasKey, freeExposure}
-use Rattle.rules.specs.Requesting.{giverIn, takerIn, objectIn, closingIn, pairsNow, exposureOf, needsExposure, exposureGiven, rowsEntered, pairedWith, entered}
+use Rattle.rules.specs.Requesting.{pairsNow, exposureOf, needsExposure, exposureGiven, rowsEntered, pairedWith, entered}
+use Rattle.rules.specs.Fields.{giverIn, takerIn, basketOrExposureIn, closingIn}
 use Rattle.facts.proofs.Keeps.{Good, Keeps}
 use Rattle.facts.proofs.Searches.{least-le}
 use Rattle.request_laws.proofs.Accepting.{fop-small, return-small, fop-names, fop-request, fop-room, fop-exposure, return-request, return-room}
@@ -44,7 +45,7 @@ module _ (s : State) (r : List ℕ) (good : Good s) (legal : areLegal 6 r ≡ tr
   without : needsExposure s 6 r ≡ false → Keeps s (leaving a b m (rowsEntered s 6 r) [])
   without needs =
       entering-keeps s 6 r good (fop-request s r legal accepted) (fop-small r legal) (fop-room s r legal accepted)
-      (λ p. inr (let l = least-le (hasKey s (giverIn r) (takerIn r) (objectIn r) (closingIn 6 r)) 64 0 in
+      (λ p. inr (let l = least-le (hasKey s (giverIn r) (takerIn r) (basketOrExposureIn r) (closingIn 6 r)) 64 0 in
       let n : exposureOf s r ≡ 64 → ⊥ = eqb-false (exposureOf s r) 64 (rw p at needs) in omega arith)) a b m
 
 pub keeps-fop : (s : State) (r : List ℕ) → Good s → areLegal 6 r ≡ true → lowest (fopRules s r) ≡ 0 → Keeps s (entered s 6 r)

@@ -9,11 +9,12 @@ use native.Mathlib.Omega.{arith}
 use lib.Dec.{eqb}
 use borrow.Author.Tests.{eq-eqb, ne-eqb}
 use Rattle.calendar.specs.Target.{openDay}
-use Rattle.book.specs.Layout.{tolerance, nextNumber, maps, numbers, kinds, sides, givers, takers, objects, amounts, settlements, closings, settledAmounts, partners, pairPartials, cancels, ends, inUse, exposureGivers, exposureTakers}
+use Rattle.book.specs.Layout.{tolerance, nextNumber, maps, numbers, requestKinds, sides, givers, takers, basketsOrExposures, amounts, settlements, closings, settledAmounts, partners, pairPartials, cancels, ends, inUse, exposureGivers, exposureTakers}
 use Rattle.book.specs.State.{State}
-use Rattle.rules.specs.Requests.{isUsed, isReturn, isPaired, partnerOf, exposureWith, exposureOfFop}
-use Rattle.rules.specs.Requesting.{sideIn, giverIn, takerIn, objectIn, amountIn, settlementIn, closingIn, withRow}
-use Rattle.rules.specs.Sound.{openOrNone, soundRow}
+use Rattle.rules.specs.Requests.{isUsed, isReturn, isPaired, partnerOf, exposureWith, exposureOfFop, openOrNone}
+use Rattle.rules.specs.Requesting.{withRow}
+use Rattle.rules.specs.Fields.{sideIn, giverIn, takerIn, basketOrExposureIn, amountIn, settlementIn, closingIn}
+use Rattle.rules.specs.ByRow.{soundRow}
 use Rattle.rules.specs.Stock.{basketSetUp}
 use Rattle.facts.proofs.Rows.{Parties, Fop, Return, Kind, fop, return, Fields, Pair, paired-sound, unpaired-sound}
 use Rattle.request_laws.proofs.Covering.{Covers, parties-kept, key-kept}
@@ -21,16 +22,16 @@ use Rattle.request_laws.proofs.Staying.{SameRow}
 
 -- what an accepted record names, by its kind
 pub record FopIn (s : State) (r : List ℕ) : Type 0 where
-  pub basket-below : objectIn r < 16
-  pub basket-known : basketSetUp s (objectIn r) ≡ true
+  pub basket-below : basketOrExposureIn r < 16
+  pub basket-known : basketSetUp s (basketOrExposureIn r) ≡ true
   pub amount-low : s tolerance 0 ≤ amountIn r
   pub closing : openOrNone (closingIn 6 r) ≡ true
 
 pub record ReturnIn (s : State) (r : List ℕ) : Type 0 where
-  pub exposure-below : objectIn r < 64
-  pub exposure-used : s inUse (objectIn r) ≡ 1
-  pub giver : s exposureGivers (objectIn r) ≡ giverIn r
-  pub taker : s exposureTakers (objectIn r) ≡ takerIn r
+  pub exposure-below : basketOrExposureIn r < 64
+  pub exposure-used : s inUse (basketOrExposureIn r) ≡ 1
+  pub giver : s exposureGivers (basketOrExposureIn r) ≡ giverIn r
+  pub taker : s exposureTakers (basketOrExposureIn r) ≡ takerIn r
 
 pub data KindIn (s : State) (k : ℕ) (r : List ℕ) : Type 0 where
   fopIn : k ≡ 6 → FopIn s r → KindIn s k r
@@ -47,16 +48,16 @@ pub record RequestIn (s : State) (k : ℕ) (r : List ℕ) : Type 0 where
 
 -- a pair of its requests is of returns, or there is an exposure with its key
 abbrev pub Belongs : State → ℕ → List ℕ → Type 0
-Belongs s k r = (k ≡ 7) ⊎ (exposureWith s (giverIn r) (takerIn r) (objectIn r) (closingIn k r) < 64)
+Belongs s k r = (k ≡ 7) ⊎ (exposureWith s (giverIn r) (takerIn r) (basketOrExposureIn r) (closingIn k r) < 64)
 
 -- the row i holds the record's fields, a number, a side, a partner's mark and the pair's partial mark; nothing is settled, and it has not ended
 pub record Entry (t : State) (k : ℕ) (r : List ℕ) (i n a p m : ℕ) : Type 0 where
   pub number : t numbers i ≡ n
-  pub kind : t kinds i ≡ k
+  pub kind : t requestKinds i ≡ k
   pub side : t sides i ≡ a
   pub giver : t givers i ≡ giverIn r
   pub taker : t takers i ≡ takerIn r
-  pub object : t objects i ≡ objectIn r
+  pub object : t basketsOrExposures i ≡ basketOrExposureIn r
   pub amount : t amounts i ≡ amountIn r
   pub settlement : t settlements i ≡ settlementIn r
   pub closing : t closings i ≡ closingIn k r
@@ -102,11 +103,11 @@ made-unmarked k r i n a p m none = record { settled = none .settled; cancel = no
 pub entry-stays : {t u : State} {k : ℕ} {r : List ℕ} {i n a p m : ℕ} → Entry t k r i n a p m → SameRow t u i → Entry u k r i n a p m
 entry-stays x same = record {
   number = same numbers refl ∙ x .number;
-  kind = same kinds refl ∙ x .kind;
+  kind = same requestKinds refl ∙ x .kind;
   side = same sides refl ∙ x .side;
   giver = same givers refl ∙ x .giver;
   taker = same takers refl ∙ x .taker;
-  object = same objects refl ∙ x .object;
+  object = same basketsOrExposures refl ∙ x .object;
   amount = same amounts refl ∙ x .amount;
   settlement = same settlements refl ∙ x .settlement;
   closing = same closings refl ∙ x .closing;
@@ -122,7 +123,7 @@ module _ {s t : State} {k : ℕ} {r : List ℕ} (c : Covers s t) (q : RequestIn 
     entry-fop : k ≡ 6 → FopIn s r → Fop t i
     entry-fop e f = record {
       basket-below = rw (x .object) (f .basket-below);
-      basket-known = rw (x .object, c .left maps (objectIn r) refl) (f .basket-known);
+      basket-known = rw (x .object, c .left maps (basketOrExposureIn r) refl) (f .basket-known);
       amount-low = rw (x .amount, c .left tolerance 0 refl) (f .amount-low);
       amount-high = rw (x .amount) (q .amount-high);
       closing = rw (x .closing, e) (f .closing);
@@ -130,7 +131,7 @@ module _ {s t : State} {k : ℕ} {r : List ℕ} (c : Covers s t) (q : RequestIn 
 
     entry-return : k ≡ 7 → ReturnIn s r → Return t i
     entry-return e f =
-        let o = objectIn r in
+        let o = basketOrExposureIn r in
         let u : s inUse o ≡ 1 = f .exposure-used in
         record {
           exposure-below = rw (x .object) (f .exposure-below);
@@ -164,7 +165,7 @@ module _ {s t : State} {k : ℕ} {r : List ℕ} (c : Covers s t) (q : RequestIn 
 
     entry-belongs : Belongs s k r → (isReturn t i ≡ true) ⊎ (exposureOfFop t i < 64)
     entry-belongs (inl e) = inl (rw (x .kind, e))
-    entry-belongs (inr l) = inr (rw (x .giver, x .taker, x .object, x .closing) (key-kept c (giverIn r) (takerIn r) (objectIn r) (closingIn k r) l))
+    entry-belongs (inr l) = inr (rw (x .giver, x .taker, x .object, x .closing) (key-kept c (giverIn r) (takerIn r) (basketOrExposureIn r) (closingIn k r) l))
 
   -- a request that waits
   pub waiting-sound : {i n a : ℕ} → Entry t k r i n a 0 0 → 0 < n → n < t nextNumber 0 → a ≤ 1 → soundRow t i ≡ true

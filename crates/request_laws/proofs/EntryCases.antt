@@ -11,11 +11,12 @@ use lib.Dec.{eqb, ltb}
 use borrow.Author.Tests.{eqb-true, eqb-false, eq-eqb, ne-eqb, not-true, not-false, ltb-true}
 use Rattle.laws.specs.Search.{count}
 use Rattle.laws.proofs.Cases.{either, clash}
-use Rattle.book.specs.Layout.{nextNumber, numbers, kinds, sides, givers, takers, objects, amounts, settlements, closings, settledAmounts, partners, pairPartials, cancels, ends}
+use Rattle.book.specs.Layout.{nextNumber, numbers, requestKinds, sides, givers, takers, basketsOrExposures, amounts, settlements, closings, settledAmounts, partners, pairPartials, cancels, ends}
 use Rattle.book.specs.State.{State, put}
 use Rattle.book.proofs.Images.{put-apart}
 use Rattle.rules.specs.Requests.{isUsed, isPaired, isWhole, isLive, allowPartial, freeRow}
-use Rattle.rules.specs.Requesting.{sideIn, giverIn, takerIn, objectIn, amountIn, settlementIn, closingIn, takerFollows, isEqual, earliestEqual, pairsNow, rowsNeeded, partialMark, withRow, withTaker, withEqual, waiting, rowsEntered}
+use Rattle.rules.specs.Requesting.{takerFollows, isEqual, earliestEqual, pairsNow, rowsNeeded, partialMark, withRow, withTaker, withEqual, waiting, rowsEntered}
+use Rattle.rules.specs.Fields.{sideIn, giverIn, takerIn, basketOrExposureIn, amountIn, settlementIn, closingIn}
 use Rattle.facts.proofs.Keeps.{Good, Keeps}
 use Rattle.facts.proofs.Rows.{head-facts, used-fields, used-unpaired, unused-blank}
 use Rattle.facts.proofs.Truth.{split}
@@ -62,7 +63,7 @@ module _ (s : State) (good : Good s) where
       (λ u. omega (arith, head-facts s (good .facts .head) .next-low, eqb-true (s numbers l) 0 (not-false (eqb (s numbers l) 0) u)))
       (either (isUsed s l))
 
-  free-blank : {i : ℕ} → Free s i → (f : ℕ) → kinds ≤ f → f < kinds + 14 → s f i ≡ 0
+  free-blank : {i : ℕ} → Free s i → (f : ℕ) → requestKinds ≤ f → f < requestKinds + 14 → s f i ≡ 0
   free-blank {i} free = unused-blank s i (good .facts .row i (free .below)) (rw (free .unused))
 
   free-alone : {i : ℕ} → Free s i → s partners i ≡ 0
@@ -90,27 +91,27 @@ record Waits (s : State) (k : ℕ) (r : List ℕ) (j : ℕ) : Type 0 where
   end : s ends j ≡ 0
   partner : s partners j ≡ 0
   opposite : s sides j + sideIn r ≡ 1
-  kind : s kinds j ≡ k
+  kind : s requestKinds j ≡ k
   giver : s givers j ≡ giverIn r
   taker : s takers j ≡ takerIn r
-  object : s objects j ≡ objectIn r
+  object : s basketsOrExposures j ≡ basketOrExposureIn r
   amount : s amounts j ≡ amountIn r
   settlement : s settlements j ≡ settlementIn r
   closing : s closings j ≡ closingIn k r
 
 equal-waits : (s : State) (k : ℕ) (r : List ℕ) (j : ℕ) → isEqual s k r j ≡ true → Waits s k r j
 equal-waits s k r j h =
-    let t = split (isLive s j ∷ not (isPaired s j) ∷ eqb (s sides j + sideIn r) 1 ∷ eqb (s kinds j) k ∷ eqb (s givers j) (giverIn r) ∷ eqb (s takers j) (takerIn r) ∷ eqb (s objects j) (objectIn r) ∷ eqb (s amounts j) (amountIn r) ∷ eqb (s settlements j) (settlementIn r) ∷ eqb (s closings j) (closingIn k r) ∷ []) h in
+    let t = split (isLive s j ∷ not (isPaired s j) ∷ eqb (s sides j + sideIn r) 1 ∷ eqb (s requestKinds j) k ∷ eqb (s givers j) (giverIn r) ∷ eqb (s takers j) (takerIn r) ∷ eqb (s basketsOrExposures j) (basketOrExposureIn r) ∷ eqb (s amounts j) (amountIn r) ∷ eqb (s settlements j) (settlementIn r) ∷ eqb (s closings j) (closingIn k r) ∷ []) h in
     let live = split (isUsed s j ∷ eqb (s ends j) 0 ∷ not (isWhole s j) ∷ []) (t .0) in
     record {
       used = live .0;
       end = eqb-true (s ends j) 0 (live .1 .0);
       partner = eqb-true (s partners j) 0 (not-false (eqb (s partners j) 0) (not-true (isPaired s j) (t .1 .0)));
       opposite = eqb-true (s sides j + sideIn r) 1 (t .1 .1 .0);
-      kind = eqb-true (s kinds j) k (t .1 .1 .1 .0);
+      kind = eqb-true (s requestKinds j) k (t .1 .1 .1 .0);
       giver = eqb-true (s givers j) (giverIn r) (t .1 .1 .1 .1 .0);
       taker = eqb-true (s takers j) (takerIn r) (t .1 .1 .1 .1 .1 .0);
-      object = eqb-true (s objects j) (objectIn r) (t .1 .1 .1 .1 .1 .1 .0);
+      object = eqb-true (s basketsOrExposures j) (basketOrExposureIn r) (t .1 .1 .1 .1 .1 .1 .0);
       amount = eqb-true (s amounts j) (amountIn r) (t .1 .1 .1 .1 .1 .1 .1 .0);
       settlement = eqb-true (s settlements j) (settlementIn r) (t .1 .1 .1 .1 .1 .1 .1 .1 .0);
       closing = eqb-true (s closings j) (closingIn k r) (t .1 .1 .1 .1 .1 .1 .1 .1 .1);
@@ -200,11 +201,11 @@ module _ (s : State) (k : ℕ) (r : List ℕ) (good : Good s) (q : RequestIn s k
       let here : eqb j j ≡ true = eq-eqb j j refl in
       let mate : Entry t k r j (s numbers j) (s sides j) (i + 1) mark = record {
         number = stays numbers refl;
-        kind = stays kinds refl ∙ waits .kind;
+        kind = stays requestKinds refl ∙ waits .kind;
         side = stays sides refl;
         giver = stays givers refl ∙ waits .giver;
         taker = stays takers refl ∙ waits .taker;
-        object = stays objects refl ∙ waits .object;
+        object = stays basketsOrExposures refl ∙ waits .object;
         amount = stays amounts refl ∙ waits .amount;
         settlement = stays settlements refl ∙ waits .settlement;
         closing = stays closings refl ∙ waits .closing;

@@ -9,13 +9,14 @@ use native.Mathlib.Decide.{ℕ-discrete}
 use native.Mathlib.Omega.{arith}
 use lib.Dec.{eqb}
 use borrow.Author.Tests.{eq-eqb, ne-eqb}
-use Rattle.book.specs.Layout.{inUse, exposureGivers, exposureTakers, exposureBaskets, exposureClosings, exposures}
+use Rattle.book.specs.Layout.{inUse, exposureGivers, exposureTakers, exposureBaskets, exposureClosings, exposureAmounts}
 use Rattle.book.specs.State.{State}
 use Rattle.facts.proofs.Sums.{Sums, allNoted}
 use Rattle.rules.specs.Outcome.{given}
 use Rattle.rules.specs.Requests.{partnerOf}
-use Rattle.rules.specs.Requesting.{giverIn, takerIn, objectIn, closingIn, exposureOf, exposureGiven}
-use Rattle.rules.specs.Sound.{soundExposure, soundRow}
+use Rattle.rules.specs.Requesting.{exposureOf, exposureGiven}
+use Rattle.rules.specs.Fields.{giverIn, takerIn, basketOrExposureIn, closingIn}
+use Rattle.rules.specs.ByRow.{soundExposure, soundRow}
 use Rattle.facts.proofs.Keeps.{Good, Keeps, Amounts}
 use Rattle.facts.proofs.Rows.{Parties, head-facts, exposure-sound, no-exposure}
 use Rattle.request_laws.proofs.Covering.{Covers, Keys, SameKey, isExposureTable, distinct-facts, keys-facts, parties-kept, exposure-kept, bonds-kept, covered}
@@ -33,7 +34,7 @@ module _ (s : State) (r : List ℕ) (e : ℕ) where
   given-writes : Good s → e < 64 → Small 6 r → Writes isExposureTable s with e e
   given-writes good row small =
       write exposureClosings e (closingIn 6 r) refl (inl refl) (omega arith) row (small .closing)
-      (write exposureBaskets e (objectIn r) refl (inl refl) (omega arith) row (small .object)
+      (write exposureBaskets e (basketOrExposureIn r) refl (inl refl) (omega arith) row (small .object)
       (write exposureTakers e (takerIn r) refl (inl refl) (omega arith) row (small .taker)
       (write exposureGivers e (giverIn r) refl (inl refl) (omega arith) row (small .giver)
       (write inUse e 1 refl (inl refl) (omega arith) row (omega arith) (unwritten e e (good .fits))))))
@@ -42,8 +43,8 @@ module _ (s : State) (r : List ℕ) (e : ℕ) where
   pub given-found : e < 64 → exposureOf with r < 64
   given-found row =
       let here : eqb e e ≡ true = eq-eqb e e refl in
-      exposure-found with (giverIn r) (takerIn r) (objectIn r) (closingIn 6 r) e row
-      (has-key with (giverIn r) (takerIn r) (objectIn r) (closingIn 6 r) e (rw here) (rw here) (rw here) (rw here) (rw here))
+      exposure-found with (giverIn r) (takerIn r) (basketOrExposureIn r) (closingIn 6 r) e row
+      (has-key with (giverIn r) (takerIn r) (basketOrExposureIn r) (closingIn 6 r) e (rw here) (rw here) (rw here) (rw here) (rw here))
 
   module _ (good : Good s) (row : e < 64) (unused : s inUse e ≡ 0) (none : exposureOf s r ≡ 64) (small : Small 6 r) where
     writes : Writes isExposureTable s with e e
@@ -72,11 +73,11 @@ module _ (s : State) (r : List ℕ) (e : ℕ) where
     new-key : (d : ℕ) → d < 64 → (d ≡ e → ⊥) → with inUse d ≡ 1 → SameKey with d e → ⊥
     new-key d l n u k =
         let same : (f x : ℕ) → with f d ≡ x → s f d ≡ x = λ f x q. sym (other d n f) ∙ q in
-        exposure-none s (giverIn r) (takerIn r) (objectIn r) (closingIn 6 r) none d l
-        (has-key s (giverIn r) (takerIn r) (objectIn r) (closingIn 6 r) d (same inUse 1 u)
+        exposure-none s (giverIn r) (takerIn r) (basketOrExposureIn r) (closingIn 6 r) none d l
+        (has-key s (giverIn r) (takerIn r) (basketOrExposureIn r) (closingIn 6 r) d (same inUse 1 u)
         (same exposureGivers (giverIn r) (k exposureGivers (omega arith) (omega arith) ∙ rw here))
         (same exposureTakers (takerIn r) (k exposureTakers (omega arith) (omega arith) ∙ rw here))
-        (same exposureBaskets (objectIn r) (k exposureBaskets (omega arith) (omega arith) ∙ rw here))
+        (same exposureBaskets (basketOrExposureIn r) (k exposureBaskets (omega arith) (omega arith) ∙ rw here))
         (same exposureClosings (closingIn 6 r) (k exposureClosings (omega arith) (omega arith) ∙ rw here)))
 
     keys : Keys with
@@ -107,7 +108,7 @@ module _ (s : State) (r : List ℕ) (e : ℕ) where
     module _ (parties : Parties s (giverIn r) (takerIn r)) (f : FopIn s r) where
       given-sound : soundExposure with e ≡ true
       given-sound =
-          let amount : s exposures e ≡ 0 = no-exposure s e (good .facts .exposure e row) unused .amount in
+          let amount : s exposureAmounts e ≡ 0 = no-exposure s e (good .facts .exposure e row) unused .amount in
           exposure-sound with e (rw here) (record {
             parties = rw here (parties-kept covers parties);
             basket-below = rw here (f .basket-below);

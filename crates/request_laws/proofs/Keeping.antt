@@ -4,11 +4,11 @@ use mathlib.Core.Path.{_≡_, refl, _∙_}
 use mathlib.Core.Bool.{true}
 use mathlib.Core.List.{List, []}
 use Prim.Native.Nat.{ℕ, _<_}
-use Rattle.book.specs.Layout.{numbers, exposures}
+use Rattle.book.specs.Layout.{numbers, exposureAmounts}
 use Rattle.book.specs.State.{State, Fits}
 use Rattle.facts.proofs.Sums.{allNoted}
 use Rattle.rules.specs.Outcome.{Step, Event}
-use Rattle.rules.specs.Sound.{soundRow}
+use Rattle.rules.specs.ByRow.{soundRow}
 use Rattle.facts.proofs.Keeps.{Good, Keeps}
 use Rattle.request_laws.proofs.Covering.{Covers, SameExposure, Distinct, bonds-kept, rows-covered}
 
@@ -23,7 +23,7 @@ unfolding allNoted
 rows-keep a b m c good same rows distinct fits = record {
   good = record { facts = rows-covered c (good .facts) same rows distinct; fits = fits };
   bonds = λ p i k l. bonds-kept c (good .facts) p i l;
-  amounts = λ p h e. rw (c .left exposures e refl) (h e);
+  amounts = λ p h e. rw (c .left exposureAmounts e refl) (h e);
 }
 
 -- one step after another that tells nothing

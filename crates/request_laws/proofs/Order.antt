@@ -7,10 +7,11 @@ use Prim.Native.Nat.{ℕ, _+_}
 use native.Mathlib.Decide.{ℕ-discrete}
 use lib.Dec.{ltb}
 use borrow.Author.Tests.{eq-eqb, ne-eqb}
-use Rattle.book.specs.Layout.{nextNumber, numbers, kinds, sides, givers, takers, objects, amounts, settlements, closings, references, partners, pairPartials, inUse, exposureGivers, exposureTakers, exposureBaskets, exposureClosings}
+use Rattle.book.specs.Layout.{nextNumber, numbers, requestKinds, sides, givers, takers, basketsOrExposures, amounts, settlements, closings, references, partners, pairPartials, inUse, exposureGivers, exposureTakers, exposureBaskets, exposureClosings}
 use Rattle.book.specs.State.{State, put}
 use Rattle.rules.specs.Requests.{freeRow}
-use Rattle.rules.specs.Requesting.{sideIn, giverIn, takerIn, objectIn, amountIn, settlementIn, closingIn, referenceIn, takerFollows, earliestEqual, exposureGiven, partialMark, withRow, withTaker, withEqual, waiting, rowsEntered}
+use Rattle.rules.specs.Requesting.{takerFollows, earliestEqual, exposureGiven, partialMark, withRow, withTaker, withEqual, waiting, rowsEntered}
+use Rattle.rules.specs.Fields.{sideIn, giverIn, takerIn, basketOrExposureIn, amountIn, settlementIn, closingIn, referenceIn}
 use Rattle.request_laws.proofs.Covering.{isExposureTable, tables-differ}
 
 -- two puts into two tables
@@ -44,11 +45,11 @@ module _ {g j y : ℕ} (exposed : isExposureTable g ≡ true) where
       (past closings i (closingIn k r) refl
       (past settlements i (settlementIn r) refl
       (past amounts i (amountIn r) refl
-      (past objects i (objectIn r) refl
+      (past basketsOrExposures i (basketOrExposureIn r) refl
       (past takers i (takerIn r) refl
       (past givers i (giverIn r) refl
       (past sides i a refl
-      (past kinds i k refl
+      (past requestKinds i k refl
       (past numbers i n refl e)))))))))))
 
 -- a way of entering that an exposure's puts go past
@@ -60,11 +61,11 @@ passes-given way passes s r e =
     let s₁ = put s inUse e 1 in
     let s₂ = put s₁ exposureGivers e (giverIn r) in
     let s₃ = put s₂ exposureTakers e (takerIn r) in
-    let s₄ = put s₃ exposureBaskets e (objectIn r) in
+    let s₄ = put s₃ exposureBaskets e (basketOrExposureIn r) in
     let one : way s₁ ≡ put (way s) inUse e 1 = passes inUse e 1 s refl .put-in in
     let two = passes exposureGivers e (giverIn r) s₁ refl .put-in ∙ ap (λ (z : State). put z exposureGivers e (giverIn r)) one in
     let three = passes exposureTakers e (takerIn r) s₂ refl .put-in ∙ ap (λ (z : State). put z exposureTakers e (takerIn r)) two in
-    let four = passes exposureBaskets e (objectIn r) s₃ refl .put-in ∙ ap (λ (z : State). put z exposureBaskets e (objectIn r)) three in
+    let four = passes exposureBaskets e (basketOrExposureIn r) s₃ refl .put-in ∙ ap (λ (z : State). put z exposureBaskets e (basketOrExposureIn r)) three in
     sym (passes exposureClosings e (closingIn 6 r) s₄ refl .put-in ∙ ap (λ (z : State). put z exposureClosings e (closingIn 6 r)) four)
 
 -- whichever way is chosen

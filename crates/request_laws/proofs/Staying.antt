@@ -9,10 +9,10 @@ use native.Mathlib.Omega.{arith}
 use lib.Dec.{leb}
 use borrow.Author.Tests.{le-leb, leb-true}
 use Rattle.laws.proofs.Cases.{either}
-use Rattle.book.specs.Layout.{tolerance, maps, numbers, kinds, sides, givers, takers, objects, amounts, settlements, closings, settledAmounts, partners, pairPartials, cancels, ends, inUse, exposureGivers, exposureTakers}
+use Rattle.book.specs.Layout.{tolerance, maps, numbers, requestKinds, sides, givers, takers, basketsOrExposures, amounts, settlements, closings, settledAmounts, partners, pairPartials, cancels, ends, inUse, exposureGivers, exposureTakers}
 use Rattle.book.specs.State.{State}
 use Rattle.rules.specs.Requests.{isUsed, isReturn, isPaired, partnerOf, exposureOfFop}
-use Rattle.rules.specs.Sound.{soundRow}
+use Rattle.rules.specs.ByRow.{soundRow}
 use Rattle.facts.proofs.Facts.{Sound}
 use Rattle.facts.proofs.Rows.{Fop, Return, Kind, fop, return, Fields, Pair, used-fields, used-paired, used-unpaired, unused-blank, paired-sound, unpaired-sound, blank-sound}
 use Rattle.facts.proofs.Truth.{split, join}
@@ -46,8 +46,8 @@ module _ {s t : State} (c : Covers s t) (h : Sound s) where
   module _ (i : ℕ) (same : Fixed s t i) where
     fop-kept : Fop s i → Fop t i
     fop-kept f = record {
-      basket-below = rw (same objects refl) (f .basket-below);
-      basket-known = rw (same objects refl, c .left maps (s objects i) refl) (f .basket-known);
+      basket-below = rw (same basketsOrExposures refl) (f .basket-below);
+      basket-known = rw (same basketsOrExposures refl, c .left maps (s basketsOrExposures i) refl) (f .basket-known);
       amount-low = rw (same amounts refl, c .left tolerance 0 refl) (f .amount-low);
       amount-high = rw (same amounts refl) (f .amount-high);
       closing = rw (same closings refl) (f .closing);
@@ -55,21 +55,21 @@ module _ {s t : State} (c : Covers s t) (h : Sound s) where
 
     return-kept : Return s i → Return t i
     return-kept r =
-        let o = s objects i in
+        let o = s basketsOrExposures i in
         let u : s inUse o ≡ 1 = r .exposure-used in
         record {
-          exposure-below = rw (same objects refl) (r .exposure-below);
-          exposure-used = rw (same objects refl) (c .exposure inUse o refl u ∙ u);
-          giver = rw (same objects refl, same givers refl) (c .exposure exposureGivers o refl u ∙ r .giver);
-          taker = rw (same objects refl, same takers refl) (c .exposure exposureTakers o refl u ∙ r .taker);
+          exposure-below = rw (same basketsOrExposures refl) (r .exposure-below);
+          exposure-used = rw (same basketsOrExposures refl) (c .exposure inUse o refl u ∙ u);
+          giver = rw (same basketsOrExposures refl, same givers refl) (c .exposure exposureGivers o refl u ∙ r .giver);
+          taker = rw (same basketsOrExposures refl, same takers refl) (c .exposure exposureTakers o refl u ∙ r .taker);
           amount-low = rw (same amounts refl) (r .amount-low);
           amount-high = rw (same amounts refl) (r .amount-high);
           closing = same closings refl ∙ r .closing;
         }
 
     kind-kept : Kind s i → Kind t i
-    kind-kept (fop e f) = fop (same kinds refl ∙ e) (fop-kept f)
-    kind-kept (return e r) = return (same kinds refl ∙ e) (return-kept r)
+    kind-kept (fop e f) = fop (same requestKinds refl ∙ e) (fop-kept f)
+    kind-kept (return e r) = return (same requestKinds refl ∙ e) (return-kept r)
 
     fields-kept : t cancels i ≤ 1 → t ends i ≤ 1 → Fields s i → Fields t i
     fields-kept cancel end f = record {
@@ -91,10 +91,10 @@ module _ {s t : State} (c : Covers s t) (h : Sound s) where
           partner-below = p .partner-below;
           named = there partners refl ∙ p .named;
           opposite = rw (same sides refl, there sides refl) (p .opposite);
-          kind = both kinds refl (p .kind);
+          kind = both requestKinds refl (p .kind);
           giver = both givers refl (p .giver);
           taker = both takers refl (p .taker);
-          object = both objects refl (p .object);
+          object = both basketsOrExposures refl (p .object);
           amount = both amounts refl (p .amount);
           settlement = both settlements refl (p .settlement);
           closing = both closings refl (p .closing);
@@ -104,9 +104,9 @@ module _ {s t : State} (c : Covers s t) (h : Sound s) where
         }
 
     belongs-kept : (isReturn s i ≡ true) ⊎ (exposureOfFop s i < 64) → (isReturn t i ≡ true) ⊎ (exposureOfFop t i < 64)
-    belongs-kept (inl r) = inl (rw (same kinds refl) r)
+    belongs-kept (inl r) = inl (rw (same requestKinds refl) r)
     belongs-kept (inr b) =
-        inr (rw (same givers refl, same takers refl, same objects refl, same closings refl) (key-kept c (s givers i) (s takers i) (s objects i) (s closings i) b))
+        inr (rw (same givers refl, same takers refl, same basketsOrExposures refl, same closings refl) (key-kept c (s givers i) (s takers i) (s basketsOrExposures i) (s closings i) b))
 
     -- a used row that stays but for its marks; a partner that stays so too, and ends with it
     pub marked-row : i < 256 → isUsed s i ≡ true → t cancels i ≤ 1 → t ends i ≤ 1

@@ -10,12 +10,13 @@ use native.Mathlib.Omega.{arith}
 use lib.Dec.{eqb, leb}
 use borrow.Author.Tests.{lt-leb, leb-true, not-true}
 use Rattle.laws.proofs.Cases.{and-left, and-right, or-left, or-right}
-use Rattle.book.specs.Layout.{nextNumber, numbers, kinds, sides, givers, takers, objects, amounts, settlements, closings, references, partners, pairPartials, ends, inUse, exposureClosings, rowsOf, widthOf, tableCount}
+use Rattle.book.specs.Layout.{nextNumber, numbers, requestKinds, sides, givers, takers, basketsOrExposures, amounts, settlements, closings, references, partners, pairPartials, ends, inUse, exposureClosings, rowsOf, widthOf, tableCount}
 use Rattle.book.specs.State.{State, put, Fits}
 use Rattle.book.proofs.Images.{put-apart, put-cases, put-fits}
-use Rattle.rules.specs.Requesting.{giverIn, takerIn, objectIn, amountIn, settlementIn, closingIn, referenceIn, withRow}
+use Rattle.rules.specs.Requesting.{withRow}
+use Rattle.rules.specs.Fields.{giverIn, takerIn, basketOrExposureIn, amountIn, settlementIn, closingIn, referenceIn}
 use Rattle.rules.specs.Requests.{partnerOf}
-use Rattle.rules.specs.Sound.{soundRow}
+use Rattle.rules.specs.ByRow.{soundRow}
 use Rattle.facts.proofs.Keeps.{Good, Keeps}
 use Rattle.request_laws.proofs.Covering.{Covers, Distinct, SameExposure, isRowTable, isExposureTable, isLeft, tables-differ}
 use Rattle.request_laws.proofs.Keeping.{leaving, rows-keep}
@@ -57,7 +58,7 @@ pub record Small (k : ℕ) (r : List ℕ) : Type 0 where
   pub kind : k < 4294967296
   pub giver : giverIn r < 4294967296
   pub taker : takerIn r < 4294967296
-  pub object : objectIn r < 4294967296
+  pub object : basketOrExposureIn r < 4294967296
   pub amount : amountIn r < 18446744073709551616
   pub settlement : settlementIn r < 4294967296
   pub closing : closingIn k r < 4294967296
@@ -74,11 +75,11 @@ write-row k r l n side partner partial small at row a b c d written =
     (write closings l (closingIn k r) refl at (omega arith) row (small .closing)
     (write settlements l (settlementIn r) refl at (omega arith) row (small .settlement)
     (write amounts l (amountIn r) refl at (omega arith) row (small .amount)
-    (write objects l (objectIn r) refl at (omega arith) row (small .object)
+    (write basketsOrExposures l (basketOrExposureIn r) refl at (omega arith) row (small .object)
     (write takers l (takerIn r) refl at (omega arith) row (small .taker)
     (write givers l (giverIn r) refl at (omega arith) row (small .giver)
     (write sides l side refl at (omega arith) row (omega arith)
-    (write kinds l k refl at (omega arith) row (small .kind)
+    (write requestKinds l k refl at (omega arith) row (small .kind)
     (write numbers l n refl at (omega arith) row a written)))))))))))
 
 -- the tables are of one sort each

@@ -3,10 +3,10 @@
 use mathlib.Core.Path.{_≡_}
 use mathlib.Core.List.{List}
 use Prim.Native.Nat.{ℕ, _≤_}
-use Rattle.book.specs.Layout.{numbers, kinds, sides, givers, takers, objects, amounts, settlements, closings, references, partners, pairPartials}
+use Rattle.book.specs.Layout.{numbers, requestKinds, sides, givers, takers, basketsOrExposures, amounts, settlements, closings, references, partners, pairPartials}
 use Rattle.book.specs.State.{State, put}
 use Rattle.rules.specs.Requests.{freeRow}
-use Rattle.rules.specs.Requesting.{giverIn, takerIn, objectIn, amountIn, settlementIn, closingIn, referenceIn}
+use Rattle.rules.specs.Fields.{giverIn, takerIn, basketOrExposureIn, amountIn, settlementIn, closingIn, referenceIn}
 use Rattle.request_search.specs.Ranges.{RequestIn}
 
 -- the common fields with the kind, 6 or 7, and the fields that depend on it
@@ -19,7 +19,7 @@ pub record EntryIn (k : ℕ) (r : List ℕ) : Type 0 where
 
 -- the row's parties with their basket or exposure; its amount, days and reference
 abbrev pub withParties : State → List ℕ → ℕ → State
-withParties s r i = put (put (put s givers i (giverIn r)) takers i (takerIn r)) objects i (objectIn r)
+withParties s r i = put (put (put s givers i (giverIn r)) takers i (takerIn r)) basketsOrExposures i (basketOrExposureIn r)
 
 abbrev pub withTerms : State → ℕ → List ℕ → ℕ → State
 withTerms s k r i =
@@ -28,7 +28,7 @@ withTerms s k r i =
 -- a row whose number stands already gets the rest
 abbrev pub filledRow : State → ℕ → List ℕ → ℕ → ℕ → ℕ → ℕ → State
 filledRow s k r i side partner partial =
-    put (put (withTerms (withParties (put (put s kinds i k) sides i side) r i) k r i) partners i partner) pairPartials i partial
+    put (put (withTerms (withParties (put (put s requestKinds i k) sides i side) r i) k r i) partners i partner) pairPartials i partial
 
 -- the lowest free row is taken for a number
 pub record RowTaken (s : State) (number row : ℕ) (after : State) : Type 0 where

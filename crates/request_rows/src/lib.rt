@@ -5,19 +5,20 @@ ghost use lib.ListN.{length};
 ghost use Rattle.book.specs.Layout.{bookLength};
 ghost use Rattle.book.specs.State.{state};
 ghost use Rattle.rules.specs.Requests.{freeRow};
-ghost use Rattle.rules.specs.Requesting.{referenceIn, partialMark};
+ghost use Rattle.rules.specs.Requesting.{partialMark};
+ghost use Rattle.rules.specs.Fields.{referenceIn};
 ghost use Rattle.request_search.specs.Ranges.{RequestIn};
 ghost use Rattle.request_rows.specs.Rows.{EntryIn, withParties, withTerms, filledRow, RowTaken};
 use book::layout::AMOUNTS;
+use book::layout::BASKETS_OR_EXPOSURES;
 use book::layout::CLOSINGS;
 use book::layout::GIVERS;
-use book::layout::KINDS;
 use book::layout::NUMBERS;
-use book::layout::OBJECTS;
 use book::layout::PAIR_PARTIALS;
 use book::layout::PARTIALS;
 use book::layout::PARTNERS;
 use book::layout::REFERENCES;
+use book::layout::REQUEST_KINDS;
 use book::layout::SETTLEMENTS;
 use book::layout::SIDES;
 use book::layout::TAKERS;
@@ -36,7 +37,7 @@ fn write_parties(book: &mut [u8], fields: &[u64; 8], i: usize)
 {
     book::set(book, GIVERS, i, fields[1]);
     book::set(book, TAKERS, i, fields[2]);
-    book::set(book, OBJECTS, i, fields[3]);
+    book::set(book, BASKETS_OR_EXPOSURES, i, fields[3]);
 }
 
 // Writes a row's amount, days and reference.
@@ -63,7 +64,7 @@ pub fn fill_row(
     requires { ⌜ (length (now book) ≡ bookLength) × EntryIn kind (now fields) × (i < 256) × (side ≤ 1) × (partner ≤ 256) × (partial ≤ 1) ⌝ }
     ensures { λ _. ⌜ state (now (book .exit)) ≡ filledRow (state (now (book .entry))) kind (now (fields .entry)) i side partner partial ⌝ }
 {
-    book::set(book, KINDS, i, kind);
+    book::set(book, REQUEST_KINDS, i, kind);
     book::set(book, SIDES, i, side);
     write_parties(book, fields, i);
     write_terms(book, kind, fields, i);

@@ -11,10 +11,11 @@ use lib.ListN.{getD}
 use borrow.Author.Tests.{eq-eqb, ne-eqb, le-leb, lt-leb, lt-ltb, le-ltb, not-true, not-false}
 use Rattle.laws.specs.Bits.{hasBit}
 use Rattle.laws.specs.Search.{leastBy}
-use Rattle.book.specs.Layout.{modes, lists, numbers, kinds, sides, givers, takers, objects, amounts, settlements, closings, settledAmounts, partners, ends}
+use Rattle.book.specs.Layout.{modes, lists, numbers, requestKinds, sides, givers, takers, basketsOrExposures, amounts, settlements, closings, settledAmounts, partners, ends}
 use Rattle.book.specs.State.{State}
 use Rattle.rules.specs.Requests.{isLive, isPaired, isOwner, acceptsGiver}
-use Rattle.rules.specs.Requesting.{closingIn, takerFollows, isEqual}
+use Rattle.rules.specs.Requesting.{takerFollows, isEqual}
+use Rattle.rules.specs.Fields.{closingIn}
 use Rattle.request_search.specs.Rows.{sameTerms, otherSide, earlierOf, openOrWhole, isOwnRequest}
 use Rattle.request_search.proofs.Searches.{leastBy-next, leastBy-le}
 
@@ -54,7 +55,7 @@ module _ (s : State) (k : ℕ) (r : List ℕ) (i : ℕ) {a : ℕ} (aq : a ≡ s 
     pub other-settlement : (d ≡ getD r 5 0 → ⊥) → false ≡ sameTerms s k r i
     other-settlement h = rw (← dq, ne-eqb d (getD r 5 0) h, and-false, and-false)
 
-    module _ (dh : d ≡ getD r 5 0) {o : ℕ} (oq : o ≡ s objects i) where
+    module _ (dh : d ≡ getD r 5 0) {o : ℕ} (oq : o ≡ s basketsOrExposures i) where
       pub other-object : (o ≡ getD r 3 0 → ⊥) → false ≡ sameTerms s k r i
       other-object h = rw (← oq, ne-eqb o (getD r 3 0) h)
 
@@ -83,7 +84,7 @@ module _ (s : State) (k : ℕ) (r : List ℕ) (i : ℕ) {b : Bool} (bq : b ≡ s
       pub other-taker : (t ≡ getD r 2 0 → ⊥) → false ≡ otherSide s k r i
       other-taker h = rw (← tq, ne-eqb t (getD r 2 0) h, and-false, and-false, and-false)
 
-      module _ (th : t ≡ getD r 2 0) {n : ℕ} (nq : n ≡ s kinds i) where
+      module _ (th : t ≡ getD r 2 0) {n : ℕ} (nq : n ≡ s requestKinds i) where
         pub other-kind : (n ≡ k → ⊥) → false ≡ otherSide s k r i
         other-kind h = rw (← nq, ne-eqb n k h, and-false)
 

@@ -2,13 +2,13 @@
 -- Assumes nothing.
 use mathlib.Core.List.{List}
 use Prim.Native.Nat.{ℕ, _≤_}
-use Rattle.rules.specs.Requesting.{sideIn, giverIn, takerIn, objectIn, amountIn, settlementIn}
+use Rattle.rules.specs.Fields.{sideIn, giverIn, takerIn, basketOrExposureIn, amountIn, settlementIn}
 
 -- the fields that a FOP and a return have in common
 pub record RequestIn (r : List ℕ) : Type 0 where
   pub side : sideIn r ≤ 1
   pub giver : giverIn r ≤ 31
   pub taker : takerIn r ≤ 31
-  pub object : objectIn r ≤ 63
+  pub object : basketOrExposureIn r ≤ 63
   pub amount : amountIn r ≤ 1000000000000
   pub settlement : settlementIn r ≤ 4294967295

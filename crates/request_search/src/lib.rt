@@ -6,20 +6,21 @@ ghost use lib.ListN.{length};
 ghost use Rattle.book.specs.Layout.{bookLength};
 ghost use Rattle.book.specs.State.{state};
 ghost use Rattle.rules.specs.Requests.{isLive, isPaired, isOwner, acceptsGiver, freeExposure, freeRow};
-ghost use Rattle.rules.specs.Requesting.{closingIn, takerFollows, isEqual, earliestEqual, ownRequest};
+ghost use Rattle.rules.specs.Requesting.{takerFollows, isEqual, earliestEqual, ownRequest};
+ghost use Rattle.rules.specs.Fields.{closingIn};
 ghost use Rattle.request_search.specs.Ranges.{RequestIn};
 ghost use Rattle.request_search.specs.Rows.{rowsFree, sameTerms, otherSide, earlierOf, openOrWhole, isOwnRequest};
 use book::layout::AMOUNTS;
+use book::layout::BASKETS_OR_EXPOSURES;
 use book::layout::CLOSINGS;
 use book::layout::ENDS;
 use book::layout::GIVERS;
 use book::layout::IN_USE;
-use book::layout::KINDS;
 use book::layout::LISTS;
 use book::layout::MODES;
 use book::layout::NUMBERS;
-use book::layout::OBJECTS;
 use book::layout::PARTNERS;
+use book::layout::REQUEST_KINDS;
 use book::layout::SETTLED_AMOUNTS;
 use book::layout::SETTLEMENTS;
 use book::layout::SIDES;
@@ -69,7 +70,7 @@ fn has_terms(book: &[u8], kind: u64, fields: &[u64; 8], i: usize) -> bool
     if book::get(book, SETTLEMENTS, i) != fields[5] {
         return false;
     }
-    if book::get(book, OBJECTS, i) != fields[3] {
+    if book::get(book, BASKETS_OR_EXPOSURES, i) != fields[3] {
         return false;
     }
     book::get(book, CLOSINGS, i) == closing_in(kind, fields)
@@ -89,7 +90,7 @@ fn is_other_side(book: &[u8], kind: u64, fields: &[u64; 8], i: usize) -> bool
     if book::get(book, TAKERS, i) != fields[2] {
         return false;
     }
-    if book::get(book, KINDS, i) != kind {
+    if book::get(book, REQUEST_KINDS, i) != kind {
         return false;
     }
     book::get(book, SIDES, i) == 1 - fields[0]

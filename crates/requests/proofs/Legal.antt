@@ -8,7 +8,7 @@ use native.Mathlib.Omega.{arith}
 use lib.ListN.{getD}
 use Rattle.record_kinds.specs.Kinds.{kinds}
 use Rattle.records.specs.Writing.{areLegal}
-use Rattle.rules.specs.Requesting.{objectIn}
+use Rattle.rules.specs.Fields.{basketOrExposureIn}
 use Rattle.facts.proofs.Ranges.{field-in}
 use Rattle.request_search.specs.Ranges.{RequestIn}
 use Rattle.request_rows.specs.Rows.{EntryIn}
@@ -36,7 +36,7 @@ module _ (r : List ℕ) where
   pub fop-fields : areLegal 6 r ≡ true → RequestIn r
   fop-fields h = fop-in h .fields
 
-  pub basket-in : areLegal 6 r ≡ true → objectIn r < 16
+  pub basket-in : areLegal 6 r ≡ true → basketOrExposureIn r < 16
   unfolding kinds
   basket-in h = omega (arith, field-in 6 3 r h (omega arith) .1)
 

@@ -8,7 +8,7 @@ use lib.Dec.{eqb}
 use Rattle.laws.specs.Search.{all}
 use Rattle.laws.proofs.Least.{Rest}
 use Rattle.book.specs.State.{State}
-use Rattle.rules.specs.Sound.{same}
+use Rattle.rules.specs.ByRow.{same}
 
 -- one number of a table, and two
 pub by-one : {x y : ℕ} → x ≡ y → eqb x 0 ≡ eqb y 0

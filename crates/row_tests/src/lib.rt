@@ -5,7 +5,7 @@ ghost use lib.ListN.{length};
 ghost use lib.Dec.{eqb};
 ghost use Rattle.book.specs.Layout.{bookLength, tableCount, rowsOf};
 ghost use Rattle.book.specs.State.{state};
-ghost use Rattle.rules.specs.Sound.{same, alike, blank};
+ghost use Rattle.rules.specs.ByRow.{same, alike, blank};
 ghost use Rattle.row_tests.specs.Bytes.{emptyBytes, emptyRows};
 ghost use Rattle.row_tests.specs.Rows.{InRows};
 use book::layout;

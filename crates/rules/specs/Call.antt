@@ -10,6 +10,7 @@ use Rattle.book.specs.State.{State, state, image}
 use Rattle.records.specs.Reading.{read}
 use Rattle.rules.specs.Codes.{codeOf}
 use Rattle.rules.specs.DayChange.{nextDay}
+use Rattle.rules.specs.Fields.{fopKind, returnKind, openingKind}
 use Rattle.rules.specs.Marking.{marked, recall}
 use Rattle.rules.specs.Outcome.{Answer, answer, Step, silent}
 use Rattle.rules.specs.Requesting.{entered, cancelled}
@@ -26,8 +27,8 @@ stepsOf s r =
     ∷ basketMade s r
     ∷ deposited s r
     ∷ withdrawn s r
-    ∷ entered s 6 r
-    ∷ entered s 7 r
+    ∷ entered s fopKind r
+    ∷ entered s returnKind r
     ∷ cancelled s r
     ∷ settlement s
     ∷ marked s
@@ -44,7 +45,7 @@ recordCode s bytes = cond (eqb (read bytes .code) 0) (codeOf s (read bytes .kind
 
 -- "not tested for kind 0": the kind byte is 0
 abbrev pub opens : List ℕ → Bool
-opens bytes = not (eqb (length bytes) 0) && eqb (getD bytes 0 0) 0
+opens bytes = not (eqb (length bytes) 0) && eqb (getD bytes 0 0) openingKind
 
 -- "The lowest that applies": 1 book of another length, 2 book not sound, then the record's
 unfoldable pub callCode : List ℕ → List ℕ → ℕ

@@ -1,21 +1,22 @@
 -- Document 01, "Codes": for each kind the rules that can apply to a record in its ranges, "the lowest that applies" first.
 -- 1, 2 and 3, and 4 by the reader's ranges, come before these (Call.antt).
 -- Assumes nothing.
-use mathlib.Core.Bool.{not, _&&_, _||_}
-use mathlib.Core.List.{List, [], _∷_}
+use mathlib.Core.Path.{_≡_}
+use mathlib.Core.Bool.{Bool, true, false, not, _&&_, _||_, cond}
+use mathlib.Core.List.{List, [], _∷_, _++_}
 use Prim.Native.Nat.{ℕ, _+_, _*_, _-_, _%_}
 use lib.Dec.{eqb, leb, ltb}
 use lib.ListN.{getD}
 use Rattle.laws.specs.Search.{count}
 use Rattle.calendar.specs.Target.{lastDay, openDay, nextOpenDay}
-use Rattle.book.specs.Layout.{today, tolerance, nextNumber, lots, numbers, settledAmounts, inUse, exposureGivers, exposureTakers, accounts, positions}
+use Rattle.book.specs.Layout.{today, tolerance, nextNumber, lots, numbers, settledAmounts, exposureGivers, accounts, positions}
 use Rattle.book.specs.State.{State}
+use Rattle.rules.specs.Fields.{fopKind, recallKind, takerSide, openingDay, pricedSecurity, priceLot, quoteDayIn, basketIn, accountOwner, accountSecurity, nominalIn, sideIn, giverIn, takerIn, basketOrExposureIn, amountIn, settlementIn, closingIn, cancelOwner, cancelNumber, recallGiver, recallExposure, recallSecurity, recallNominal}
 use Rattle.rules.specs.Marking.{recallAccepted}
-use Rattle.rules.specs.Outcome.{Rule, rule, lowest, field}
-use Rattle.rules.specs.Requests.{acceptsGiver, freeExposure}
-use Rattle.rules.specs.Requesting.{sideIn, giverIn, takerIn, objectIn, amountIn, settlementIn, closingIn, rowsNeeded, needsExposure, ownRequest}
-use Rattle.rules.specs.Sound.{holding}
-use Rattle.rules.specs.Stock.{participantSetUp, securitySetUp, basketSetUp}
+use Rattle.rules.specs.Outcome.{Rule, rule, lowest}
+use Rattle.rules.specs.Requests.{acceptsGiver, isInUse, isExposureOf, freeExposure}
+use Rattle.rules.specs.Requesting.{rowsNeeded, needsExposure, ownRequest}
+use Rattle.rules.specs.Stock.{participantSetUp, securitySetUp, basketSetUp, holding}
 
 -- 5: "participant, security or basket not set up"
 abbrev pub noParticipant : State → ℕ → Rule
@@ -33,29 +34,35 @@ dayNotOpen d = rule (not (openDay d)) 7
 
 -- 0: a day that is not open
 unfoldable pub openingRules : List ℕ → List Rule
-openingRules r = dayNotOpen (field r 0) ∷ []
+openingRules r = dayNotOpen (openingDay r) ∷ []
 
 -- 1: "price with another lot"; quote day not open; "quote after today"
 unfoldable pub priceRules : State → List ℕ → List Rule
 priceRules s r =
-    rule (securitySetUp s (field r 0) && not (eqb (s lots (field r 0)) (field r 1))) 6
-    ∷ dayNotOpen (field r 4)
-    ∷ rule (ltb (s today 0) (field r 4)) 7
+    rule (securitySetUp s (pricedSecurity r) && not (eqb (s lots (pricedSecurity r)) (priceLot r))) 6
+    ∷ dayNotOpen (quoteDayIn r)
+    ∷ rule (ltb (s today 0) (quoteDayIn r)) 7
     ∷ []
 
 -- 3: "basket again"
 unfoldable pub basketRules : State → List ℕ → List Rule
-basketRules s r = rule (basketSetUp s (field r 0)) 6 ∷ []
+basketRules s r = rule (basketSetUp s (basketIn r)) 6 ∷ []
 
 -- 4: not set up; "deposit takes account plus positions above 500,000,000"
 unfoldable pub depositRules : State → List ℕ → List Rule
 depositRules s r =
-    noParticipant s (field r 0) ∷ noSecurity s (field r 1) ∷ rule (ltb 500000000 (holding s (field r 0) (field r 1) + field r 2)) 11 ∷ []
+    noParticipant s (accountOwner r)
+    ∷ noSecurity s (accountSecurity r)
+    ∷ rule (ltb 500000000 (holding s (accountOwner r) (accountSecurity r) + nominalIn r)) 11
+    ∷ []
 
 -- 5: not set up; "more than the account .. holds"
 unfoldable pub withdrawalRules : State → List ℕ → List Rule
 withdrawalRules s r =
-    noParticipant s (field r 0) ∷ noSecurity s (field r 1) ∷ rule (ltb (s accounts (64 * field r 0 + field r 1)) (field r 2)) 10 ∷ []
+    noParticipant s (accountOwner r)
+    ∷ noSecurity s (accountSecurity r)
+    ∷ rule (ltb (s accounts (64 * accountOwner r + accountSecurity r)) (nominalIn r)) 10
+    ∷ []
 
 -- 14: "too few request rows, or numbers above 999,999,999"
 abbrev pub tooFewRows : State → List ℕ → Rule
@@ -67,7 +74,7 @@ giverIsTaker r = rule (eqb (giverIn r) (takerIn r)) 8
 
 -- 9: "taker's own request where it accepts that giver automatically"
 abbrev pub takerNeedsNone : State → List ℕ → Rule
-takerNeedsNone s r = rule (eqb (sideIn r) 1 && acceptsGiver s (takerIn r) (giverIn r)) 9
+takerNeedsNone s r = rule (eqb (sideIn r) takerSide && acceptsGiver s (takerIn r) (giverIn r)) 9
 
 -- 6: the amount is from the tolerance on; "settlement before today; closing not after settlement"; 15: "pairing needs an exposure row and none is free"
 unfoldable pub fopRules : State → List ℕ → List Rule
@@ -75,14 +82,14 @@ fopRules s r =
     rule (ltb (amountIn r) (s tolerance 0)) 4
     ∷ noParticipant s (giverIn r)
     ∷ noParticipant s (takerIn r)
-    ∷ noBasket s (objectIn r)
+    ∷ noBasket s (basketOrExposureIn r)
     ∷ dayNotOpen (settlementIn r)
     ∷ rule (ltb (settlementIn r) (s today 0)) 7
-    ∷ rule (not (eqb (closingIn 6 r) 0) && (not (openDay (closingIn 6 r)) || leb (closingIn 6 r) (settlementIn r))) 7
+    ∷ rule (not (eqb (closingIn fopKind r) 0) && (not (openDay (closingIn fopKind r)) || leb (closingIn fopKind r) (settlementIn r))) 7
     ∷ giverIsTaker r
     ∷ takerNeedsNone s r
     ∷ tooFewRows s r
-    ∷ rule (needsExposure s 6 r && eqb (freeExposure s) 64) 15
+    ∷ rule (needsExposure s fopKind r && eqb (freeExposure s) 64) 15
     ∷ []
 
 -- 7: 12: "no used exposure of that giver (and taker)"
@@ -94,26 +101,26 @@ returnRules s r =
     ∷ rule (ltb (settlementIn r) (s today 0)) 7
     ∷ giverIsTaker r
     ∷ takerNeedsNone s r
-    ∷ rule (not (eqb (s inUse (objectIn r)) 1 && (eqb (s exposureGivers (objectIn r)) (giverIn r) && eqb (s exposureTakers (objectIn r)) (takerIn r)))) 12
+    ∷ rule (not (isExposureOf s (giverIn r) (takerIn r) (basketOrExposureIn r))) 12
     ∷ tooFewRows s r
     ∷ []
 
 -- 8: "no such live request of that owner"; "cancel of a request settled in part or whole": a whole settled row gives its owner 13
 unfoldable pub cancelRules : State → List ℕ → List Rule
 cancelRules s r =
-    noParticipant s (field r 0)
-    ∷ rule (eqb (ownRequest s (field r 0) (field r 1)) 256) 12
-    ∷ rule (not (eqb (s settledAmounts (ownRequest s (field r 0) (field r 1))) 0)) 13
+    noParticipant s (cancelOwner r)
+    ∷ rule (eqb (ownRequest s (cancelOwner r) (cancelNumber r)) 256) 12
+    ∷ rule (not (eqb (s settledAmounts (ownRequest s (cancelOwner r) (cancelNumber r))) 0)) 13
     ∷ []
 
 -- 11: "recall of a set-up security not in its whole lots"; "For kind 11, 12 comes before 10"
 unfoldable pub recallRules : State → List ℕ → List Rule
 recallRules s r =
-    rule (securitySetUp s (field r 2) && not (eqb (field r 3 % s lots (field r 2)) 0)) 4
-    ∷ noParticipant s (field r 0)
-    ∷ noSecurity s (field r 2)
-    ∷ rule (not (eqb (s inUse (field r 1)) 1 && eqb (s exposureGivers (field r 1)) (field r 0))) 12
-    ∷ rule (ltb (s positions (64 * field r 1 + field r 2)) (field r 3)) 10
+    rule (securitySetUp s (recallSecurity r) && not (eqb (recallNominal r % s lots (recallSecurity r)) 0)) 4
+    ∷ noParticipant s (recallGiver r)
+    ∷ noSecurity s (recallSecurity r)
+    ∷ rule (not (isInUse s (recallExposure r) && eqb (s exposureGivers (recallExposure r)) (recallGiver r))) 12
+    ∷ rule (ltb (s positions (64 * recallExposure r + recallSecurity r)) (recallNominal r)) 10
     ∷ rule (not (recallAccepted s r)) 16
     ∷ []
 
@@ -139,6 +146,28 @@ rulesOf s r =
     ∷ nextDayRules s
     ∷ []
 
+-- 3: a kind that this list does not have
+abbrev pub unknownKind : List Rule
+unknownKind = rule true 3 ∷ []
+
 -- the code of a record in its ranges, 0 where it is accepted
 unfoldable pub codeOf : State → ℕ → List ℕ → ℕ
-codeOf s k r = lowest (getD (rulesOf s r) k [])
+codeOf s k r = lowest (getD (rulesOf s r) k unknownKind)
+
+-- the codes in their order of precedence; "For kind 11, 12 comes before 10"
+abbrev pub precedenceOf : ℕ → List ℕ
+precedenceOf k =
+    1 ∷ 2 ∷ 3 ∷ 4 ∷ 5 ∷ 6 ∷ 7 ∷ 8 ∷ 9
+    ∷ cond (eqb k recallKind) (12 ∷ 10 ∷ 11 ∷ []) (10 ∷ 11 ∷ 12 ∷ [])
+    ++ (13 ∷ 14 ∷ 15 ∷ 16 ∷ [])
+
+-- the rules' codes stand in an order: each is its first code, or one of the codes after it
+abbrev pub inPrecedence : List ℕ → List Rule → Bool
+inPrecedence [] [] = true
+inPrecedence [] (r ∷ rs) = false
+inPrecedence (c ∷ cs) [] = true
+inPrecedence (c ∷ cs) (r ∷ rs) = cond (eqb (r .code) c) (inPrecedence (c ∷ cs) rs) (inPrecedence cs (r ∷ rs))
+
+-- every kind's rules stand in the order of precedence, so that the first that applies is "the lowest that applies"
+abbrev pub RulesInPrecedence : Type 0
+RulesInPrecedence = (s : State) (k : ℕ) (r : List ℕ) → inPrecedence (precedenceOf k) (getD (rulesOf s r) k unknownKind) ≡ true

@@ -7,8 +7,8 @@ use lib.Dec.{eqb, leb}
 use Rattle.laws.specs.Search.{all, count}
 use Rattle.laws.specs.Sum.{sum}
 use Rattle.calendar.specs.Target.{nextOpenDay}
-use Rattle.book.specs.Layout.{today, modes, lists, partials, waitingModes, waitingLists, waitingPartials, numbers, kinds, sides, givers, takers, objects, amounts, settlements, closings, references, settledAmounts, partners, pairPartials, cancels, ends, inUse, exposureGivers, exposureTakers, exposureBaskets, exposureClosings, exposures}
-use Rattle.book.specs.State.{State, put}
+use Rattle.book.specs.Layout.{today, waitingModes, waitingLists, waitingPartials, givers, takers, basketsOrExposures, settlements, closings, ends, inUse, exposureClosings, exposureAmounts, profileTables, waitingTables, requestTables, keyTables}
+use Rattle.book.specs.State.{State, put, putRow, clearRow}
 use Rattle.rules.specs.Outcome.{Step, Event, closed}
 use Rattle.rules.specs.Requests.{isUsed, isFop, isReturn, isPaired, isWhole, hasKey}
 use Rattle.rules.specs.Stock.{positionOf, giveBack}
@@ -25,7 +25,7 @@ isDone s i = isWhole s i || (eqb (s ends i) 1 || (not (isPaired s i) && leb (s s
 abbrev pub isClosed : State → ℕ → ℕ → Bool
 isClosed s day i =
     (isFop s i && (isPaired s i && isReached day (s closings i)))
-    || (isReturn s i && isReached day (s exposureClosings (s objects i)))
+    || (isReturn s i && isReached day (s exposureClosings (s basketsOrExposures i)))
 
 -- the rows that a change to a day drops
 abbrev pub isDropped : State → ℕ → ℕ → Bool
@@ -33,10 +33,7 @@ isDropped s day i = isUsed s i && (isDone s i || isClosed s day i)
 
 -- a dropped row holds nothing
 abbrev pub blanked : State → ℕ → State
-blanked s i =
-    put (put (put (put (put (put (put (put (put (put (put (put (put (put (put s
-    numbers i 0) kinds i 0) sides i 0) givers i 0) takers i 0) objects i 0) amounts i 0) settlements i 0) closings i 0)
-    references i 0) settledAmounts i 0) partners i 0) pairPartials i 0) cancels i 0) ends i 0
+blanked s i = clearRow s requestTables i
 
 -- a step on each of the numbers below n that pass a test, in rising order
 unfoldable pub onEach : (ℕ → Bool) → (State → ℕ → State) → ℕ → State → State
@@ -49,10 +46,7 @@ rowsDropped s day = onEach (isDropped s day) blanked 256 s
 
 -- "a change holds from the next day": the profile that waits comes into force
 abbrev pub changeTakesEffect : State → ℕ → State
-changeTakesEffect s p =
-    put (put (put (put (put (put s
-    modes p (s waitingModes p)) lists p (s waitingLists p)) partials p (s waitingPartials p))
-    waitingModes p 0) waitingLists p 0) waitingPartials p 0
+changeTakesEffect s p = clearRow (putRow s profileTables p (s waitingModes p ∷ s waitingLists p ∷ s waitingPartials p ∷ [])) waitingTables p
 
 -- of every participant whose change waits
 unfoldable pub profilesChanged : State → State
@@ -64,7 +58,7 @@ isExposureClosed s day e = eqb (s inUse e) 1 && isReached day (s exposureClosing
 
 -- one of them: its position given back, its amount zeroed
 abbrev pub exposureClosed : State → ℕ → State
-exposureClosed s e = put (giveBack s e (positionOf s e)) exposures e 0
+exposureClosed s e = put (giveBack s e (positionOf s e)) exposureAmounts e 0
 
 -- all of them, by rising number
 unfoldable pub exposuresClosed : State → ℕ → State
@@ -74,16 +68,16 @@ exposuresClosed s day = onEach (isExposureClosed s day) exposureClosed 64 s
 abbrev pub belongs : State → ℕ → ℕ → Bool
 belongs s e i =
     isUsed s i
-    && ((isReturn s i && eqb (s objects i) e)
-    || (isFop s i && (isPaired s i && hasKey s (s givers i) (s takers i) (s objects i) (s closings i) e)))
+    && ((isReturn s i && eqb (s basketsOrExposures i) e)
+    || (isFop s i && (isPaired s i && hasKey s (s givers i) (s takers i) (s basketsOrExposures i) (s closings i) e)))
 
 -- "free exposures of amount 0 to which no row belongs"
 abbrev pub isIdle : State → ℕ → Bool
-isIdle s e = eqb (s inUse e) 1 && (eqb (s exposures e) 0 && all (λ i. not (belongs s e i)) 256 0)
+isIdle s e = eqb (s inUse e) 1 && (eqb (s exposureAmounts e) 0 && all (λ i. not (belongs s e i)) 256 0)
 
 -- one of them: its row holds nothing
 abbrev pub exposureFreed : State → ℕ → State
-exposureFreed s e = put (put (put (put (put s inUse e 0) exposureGivers e 0) exposureTakers e 0) exposureBaskets e 0) exposureClosings e 0
+exposureFreed s e = clearRow s (inUse ∷ keyTables) e
 
 -- all of them
 unfoldable pub exposuresFreed : State → State
@@ -99,7 +93,7 @@ dayChanged s =
 -- what the ledger is told: the amount of each exposure that is closed
 unfoldable pub closingEvents : State → ℕ → ℕ → List Event
 closingEvents s day zero = []
-closingEvents s day (suc e) = closingEvents s day e ++ cond (isExposureClosed s day e) (closed e (s exposures e) ∷ []) []
+closingEvents s day (suc e) = closingEvents s day e ++ cond (isExposureClosed s day e) (closed e (s exposureAmounts e) ∷ []) []
 
 -- 12: "A: new day, B: rows dropped, M: amounts closed."
 unfoldable pub nextDay : State → Step
@@ -108,7 +102,7 @@ nextDay s =
     record {
       a = day;
       b = count (isDropped s day) 256 0;
-      m = sum (λ e. cond (isExposureClosed s day e) (s exposures e) 0) 64;
+      m = sum (λ e. cond (isExposureClosed s day e) (s exposureAmounts e) 0) 64;
       state = dayChanged s;
       events = closingEvents s day 64;
     }

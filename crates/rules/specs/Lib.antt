@@ -1,6 +1,8 @@
+pub mod ByRow
 pub mod Call
 pub mod Codes
 pub mod DayChange
+pub mod Fields
 pub mod Marking
 pub mod Outcome
 pub mod Reads

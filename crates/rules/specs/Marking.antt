@@ -8,11 +8,12 @@ use lib.ListN.{set, replicate}
 use Rattle.laws.specs.Filled.{filled}
 use Rattle.laws.specs.Search.{all, count}
 use Rattle.laws.specs.Sum.{sum}
-use Rattle.book.specs.Layout.{tolerance, positions, inUse, exposures}
+use Rattle.book.specs.Layout.{tolerance, positions, inUse, exposureAmounts}
 use Rattle.book.specs.State.{State}
 use Rattle.picking.specs.Pick.{butNot}
 use Rattle.picking.specs.declared.Outcome.{Outcome}
-use Rattle.rules.specs.Outcome.{Step, field}
+use Rattle.rules.specs.Outcome.{Step}
+use Rattle.rules.specs.Fields.{recallExposure, recallSecurity, recallNominal}
 use Rattle.rules.specs.Stock.{valueOf, eligibleFor, pickFor, freeFor, pledge, giveBack}
 
 -- a step on each used exposure below n, by rising number
@@ -31,11 +32,11 @@ ineligibleBack s e = giveBack s e (ineligibleOf s e)
 
 -- "then on all Free"
 unfoldable pub excessBack : State → ℕ → State
-excessBack s e = giveBack s e (freeFor s e (s exposures e) .nominals)
+excessBack s e = giveBack s e (freeFor s e (s exposureAmounts e) .nominals)
 
 -- "where the value is below the exposure, Pick the difference"
 unfoldable pub shortfallIn : State → ℕ → State
-shortfallIn s e = cond (ltb (valueOf s e) (s exposures e)) (pledge s e (pickFor s e (eligibleFor s e) (s exposures e - valueOf s e) .nominals)) s
+shortfallIn s e = cond (ltb (valueOf s e) (s exposureAmounts e)) (pledge s e (pickFor s e (eligibleFor s e) (s exposureAmounts e - valueOf s e) .nominals)) s
 
 -- the three passes, each over all exposures
 unfoldable pub givenBack : State → State
@@ -51,7 +52,7 @@ moved s t e = not (all (λ i. eqb (s positions (64 * e + i)) (t positions (64 * 
 
 -- what is missing of a used exposure
 abbrev pub missingOf : State → ℕ → ℕ
-missingOf s e = cond (eqb (s inUse e) 1) (s exposures e - valueOf s e) 0
+missingOf s e = cond (eqb (s inUse e) 1) (s exposureAmounts e - valueOf s e) 0
 
 -- 10: "A: exposures that gave back, B: exposures that took in, M: total missing after."
 unfoldable pub marked : State → Step
@@ -69,24 +70,24 @@ oneNominal i n = set (replicate 64 0) i n
 
 -- the state with the nominal given back, before its substitutes
 abbrev pub recalled : State → List ℕ → State
-recalled s r = giveBack s (field r 1) (oneNominal (field r 2) (field r 3))
+recalled s r = giveBack s (recallExposure r) (oneNominal (recallSecurity r) (recallNominal r))
 
 -- "Pick what is then missing from the exposure amount, leaving that security out"
 unfoldable pub substitutes : State → List ℕ → Outcome
 substitutes s r =
-    let e = field r 1 in
+    let e = recallExposure r in
     let t = recalled s r in
-    pickFor t e (butNot (field r 2) (eligibleFor t e)) (t exposures e - valueOf t e)
+    pickFor t e (butNot (recallSecurity r) (eligibleFor t e)) (t exposureAmounts e - valueOf t e)
 
 -- the state with the substitutes in the position
 unfoldable pub substituted : State → List ℕ → State
-substituted s r = pledge (recalled s r) (field r 1) (substitutes s r .nominals)
+substituted s r = pledge (recalled s r) (recallExposure r) (substitutes s r .nominals)
 
 -- "Accepted if the new value plus tolerance exceeds the exposure, or the new value is no lower than before."
 unfoldable pub recallAccepted : State → List ℕ → Bool
 recallAccepted s r =
-    let e = field r 1 in
-    ltb (s exposures e) (valueOf (substituted s r) e + s tolerance 0) || leb (valueOf s e) (valueOf (substituted s r) e)
+    let e = recallExposure r in
+    ltb (s exposureAmounts e) (valueOf (substituted s r) e + s tolerance 0) || leb (valueOf s e) (valueOf (substituted s r) e)
 
 -- "B: securities picked, M: the value found."
 unfoldable pub recall : State → List ℕ → Step

@@ -3,7 +3,6 @@
 use mathlib.Core.Bool.{Bool, cond}
 use mathlib.Core.List.{List, [], _∷_}
 use Prim.Native.Nat.{ℕ}
-use lib.ListN.{getD}
 use Rattle.book.specs.State.{State}
 
 -- "The answer is code, A, B, M."
@@ -47,7 +46,3 @@ rule t c = record { applies = t; code = c }
 abbrev pub lowest : List Rule → ℕ
 lowest [] = 0
 lowest (r ∷ rs) = cond (r .applies) (r .code) (lowest rs)
-
--- the field j of a record's body
-abbrev pub field : List ℕ → ℕ → ℕ
-field r j = getD r j 0

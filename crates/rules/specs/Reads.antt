@@ -8,7 +8,7 @@ use lib.Dec.{eqb, leb}
 use lib.ListN.{length, replicate}
 use Rattle.laws.specs.Bits.{hasBit}
 use Rattle.laws.specs.Search.{least, count}
-use Rattle.book.specs.Layout.{bookLength, maps, ages, numbers, kinds, sides, givers, takers, objects, amounts, settlements, closings, references, settledAmounts, pairPartials, cancels, ends, inUse, exposureGivers, exposureTakers, exposureBaskets, exposureClosings, exposures, accounts, positions}
+use Rattle.book.specs.Layout.{bookLength, maps, greatestAges, numbers, requestKinds, sides, givers, takers, basketsOrExposures, amounts, settlements, closings, references, settledAmounts, pairPartials, cancels, ends, inUse, exposureGivers, exposureTakers, exposureBaskets, exposureClosings, exposureAmounts, accounts, positions}
 use Rattle.book.specs.State.{State, state}
 use Rattle.rules.specs.Outcome.{Rule, rule, lowest}
 use Rattle.rules.specs.Requests.{isUsed, isPaired, partnerOf}
@@ -48,12 +48,12 @@ partnerNumber s i = cond (isPaired s i) (s numbers (partnerOf s i)) 0
 abbrev pub readValues : State → Read → List ℕ
 readValues s (account p i) = s accounts (64 * p + i) ∷ []
 readValues s (position e i) = s positions (64 * e + i) ∷ []
-readValues s (exposure e) = s exposureGivers e ∷ s exposureTakers e ∷ s exposureBaskets e ∷ s exposureClosings e ∷ s exposures e ∷ []
+readValues s (exposure e) = s exposureGivers e ∷ s exposureTakers e ∷ s exposureBaskets e ∷ s exposureClosings e ∷ s exposureAmounts e ∷ []
 readValues s (request n) =
     let i = rowOf s n in
-    s kinds i ∷ s sides i ∷ s givers i ∷ s takers i ∷ s objects i ∷ s amounts i ∷ s settlements i ∷ s closings i ∷ s references i ∷ s settledAmounts i
+    s requestKinds i ∷ s sides i ∷ s givers i ∷ s takers i ∷ s basketsOrExposures i ∷ s amounts i ∷ s settlements i ∷ s closings i ∷ s references i ∷ s settledAmounts i
     ∷ partnerNumber s i ∷ s pairPartials i ∷ s cancels i ∷ s ends i ∷ []
-readValues s (basket b) = s maps b ∷ s ages b ∷ count (hasBit (s maps b)) 64 0 ∷ least (hasBit (s maps b)) 64 0 ∷ []
+readValues s (basket b) = s maps b ∷ s greatestAges b ∷ count (hasBit (s maps b)) 64 0 ∷ least (hasBit (s maps b)) 64 0 ∷ []
 
 -- the whole answer of a read: its code, then its values, or as many zeros
 unfoldable pub readAnswer : List ℕ → Read → List ℕ

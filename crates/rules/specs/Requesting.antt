@@ -5,51 +5,20 @@ use mathlib.Core.List.{List, [], _∷_}
 use Prim.Native.Nat.{ℕ, _+_}
 use lib.Dec.{eqb, ltb}
 use Rattle.laws.specs.Search.{least, leastBy}
-use Rattle.book.specs.Layout.{nextNumber, numbers, kinds, sides, givers, takers, objects, amounts, settlements, closings, references, partners, pairPartials, cancels, ends, inUse, exposureGivers, exposureTakers, exposureBaskets, exposureClosings}
-use Rattle.book.specs.State.{State, put}
-use Rattle.rules.specs.Outcome.{Step, silent, given, field}
+use Rattle.book.specs.Layout.{nextNumber, numbers, requestKinds, sides, givers, takers, basketsOrExposures, amounts, settlements, closings, references, partners, pairPartials, cancels, ends, inUse, termTables, keyTables}
+use Rattle.book.specs.State.{State, put, putRow, rowIs}
+use Rattle.rules.specs.Fields.{fopKind, giverSide, sideIn, giverIn, takerIn, basketOrExposureIn, amountIn, settlementIn, closingIn, referenceIn, termsIn, cancelOwner, cancelNumber}
+use Rattle.rules.specs.Outcome.{Step, silent, given}
 use Rattle.rules.specs.Requests.{isUsed, isPaired, partnerOf, isWhole, isLive, isOwner, acceptsGiver, allowPartial, exposureWith, freeExposure, freeRow}
-
--- the fields of a request record; a return has no closing
-abbrev pub sideIn : List ℕ → ℕ
-sideIn r = field r 0
-
-abbrev pub giverIn : List ℕ → ℕ
-giverIn r = field r 1
-
-abbrev pub takerIn : List ℕ → ℕ
-takerIn r = field r 2
-
-abbrev pub objectIn : List ℕ → ℕ
-objectIn r = field r 3
-
-abbrev pub amountIn : List ℕ → ℕ
-amountIn r = field r 4
-
-abbrev pub settlementIn : List ℕ → ℕ
-settlementIn r = field r 5
-
-abbrev pub closingIn : ℕ → List ℕ → ℕ
-closingIn k r = cond (eqb k 6) (field r 6) 0
-
-abbrev pub referenceIn : ℕ → List ℕ → ℕ
-referenceIn k r = cond (eqb k 6) (field r 7) (field r 6)
 
 -- "If a giver enters and the taker is automatic, or lists that giver"
 abbrev pub takerFollows : State → List ℕ → Bool
-takerFollows s r = eqb (sideIn r) 0 && acceptsGiver s (takerIn r) (giverIn r)
+takerFollows s r = eqb (sideIn r) giverSide && acceptsGiver s (takerIn r) (giverIn r)
 
 -- "live unpaired request of the other side equal in all fields but side and reference"
 abbrev pub isEqual : State → ℕ → List ℕ → ℕ → Bool
 isEqual s k r i =
-    isLive s i
-    && (not (isPaired s i)
-    && (eqb (s sides i + sideIn r) 1
-    && (eqb (s kinds i) k
-    && (eqb (s givers i) (giverIn r)
-    && (eqb (s takers i) (takerIn r)
-    && (eqb (s objects i) (objectIn r)
-    && (eqb (s amounts i) (amountIn r) && (eqb (s settlements i) (settlementIn r) && eqb (s closings i) (closingIn k r)))))))))
+    isLive s i && (not (isPaired s i) && (eqb (s sides i + sideIn r) 1 && (eqb (s requestKinds i) k && rowIs s termTables i (termsIn k r))))
 
 -- the earliest of them: the one with the lowest number; 256 where there is none
 unfoldable pub earliestEqual : State → ℕ → List ℕ → ℕ
@@ -65,27 +34,26 @@ rowsNeeded s r = cond (takerFollows s r) 2 1
 
 -- "A FOP pair belongs to the exposure of its giver, taker, basket and closing date": its row, 64 where there is none yet
 abbrev pub exposureOf : State → List ℕ → ℕ
-exposureOf s r = exposureWith s (giverIn r) (takerIn r) (objectIn r) (closingIn 6 r)
+exposureOf s r = exposureWith s (giverIn r) (takerIn r) (basketOrExposureIn r) (closingIn fopKind r)
 
 -- "or to the lowest free row": a FOP that pairs now, whose key no used exposure has
 abbrev pub needsExposure : State → ℕ → List ℕ → Bool
-needsExposure s k r = eqb k 6 && (pairsNow s k r && eqb (exposureOf s r) 64)
+needsExposure s k r = eqb k fopKind && (pairsNow s k r && eqb (exposureOf s r) 64)
 
 -- the exposure row e given out, under the key of the record
 abbrev pub exposureGiven : State → List ℕ → ℕ → State
-exposureGiven s r e =
-    put (put (put (put (put s inUse e 1) exposureGivers e (giverIn r)) exposureTakers e (takerIn r)) exposureBaskets e (objectIn r)) exposureClosings e (closingIn 6 r)
+exposureGiven s r e = putRow s (inUse ∷ keyTables) e (1 ∷ giverIn r ∷ takerIn r ∷ basketOrExposureIn r ∷ closingIn fopKind r ∷ [])
 
 -- a row with the record's fields, a number, a side, a partner's mark (0 for none) and the pair's partial mark
 unfoldable pub withRow : State → ℕ → List ℕ → ℕ → ℕ → ℕ → ℕ → ℕ → State
 withRow s k r i number side partner partial =
     put (put (put (put (put (put (put (put (put (put (put (put s
     numbers i number)
-    kinds i k)
+    requestKinds i k)
     sides i side)
     givers i (giverIn r))
     takers i (takerIn r))
-    objects i (objectIn r))
+    basketsOrExposures i (basketOrExposureIn r))
     amounts i (amountIn r))
     settlements i (settlementIn r))
     closings i (closingIn k r))
@@ -144,11 +112,11 @@ ownRequest s p n = least (λ i. isUsed s i && (eqb (s numbers i) n && ((eqb (s e
 
 -- "when both owners have cancelled, or the giver alone where the taker now accepts it automatically"
 abbrev pub pairEnds : State → ℕ → Bool
-pairEnds s i = eqb (s cancels (partnerOf s i)) 1 || (eqb (s sides i) 0 && acceptsGiver s (s takers i) (s givers i))
+pairEnds s i = eqb (s cancels (partnerOf s i)) 1 || (eqb (s sides i) giverSide && acceptsGiver s (s takers i) (s givers i))
 
 -- 8: "an unpaired request ends .. A paired one ends, with its partner, when .."; else the owner's cancel is noted
 unfoldable pub cancelled : State → List ℕ → Step
 cancelled s r =
-    let i = ownRequest s (field r 0) (field r 1) in
+    let i = ownRequest s (cancelOwner r) (cancelNumber r) in
     let noted = put s cancels i 1 in
     silent (cond (isPaired s i) (cond (pairEnds s i) (put (put noted ends i 1) ends (partnerOf s i) 1) noted) (put s ends i 1))

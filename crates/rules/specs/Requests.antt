@@ -1,22 +1,29 @@
 -- Request rows: what is said of one, and of a pair.
 -- Assumes nothing.
 use mathlib.Core.Bool.{Bool, not, _&&_, _||_}
+use mathlib.Core.List.{[], _∷_}
 use Prim.Native.Nat.{ℕ, _-_}
 use lib.Dec.{eqb, leb}
 use Rattle.laws.specs.Bits.{hasBit}
 use Rattle.laws.specs.Search.{least}
-use Rattle.book.specs.Layout.{modes, lists, partials, numbers, kinds, sides, givers, takers, objects, amounts, closings, settledAmounts, partners, ends, inUse, exposureGivers, exposureTakers, exposureBaskets, exposureClosings}
-use Rattle.book.specs.State.{State}
+use Rattle.calendar.specs.Target.{openDay}
+use Rattle.book.specs.Layout.{modes, lists, partials, numbers, requestKinds, sides, givers, takers, basketsOrExposures, amounts, closings, settledAmounts, partners, ends, inUse, exposureGivers, exposureTakers, keyTables}
+use Rattle.book.specs.State.{State, rowIs}
+use Rattle.rules.specs.Fields.{fopKind, returnKind, giverSide, takerSide, automatic, byList, storedMode}
 
 -- the row is used: it has a request's number
 abbrev pub isUsed : State → ℕ → Bool
 isUsed s i = not (eqb (s numbers i) 0)
 
 abbrev pub isFop : State → ℕ → Bool
-isFop s i = eqb (s kinds i) 6
+isFop s i = eqb (s requestKinds i) fopKind
 
 abbrev pub isReturn : State → ℕ → Bool
-isReturn s i = eqb (s kinds i) 7
+isReturn s i = eqb (s requestKinds i) returnKind
+
+-- "a closing may be 0"
+abbrev pub openOrNone : ℕ → Bool
+openOrNone d = eqb d 0 || openDay d
 
 -- paired: it names a partner; the partner's row
 abbrev pub isPaired : State → ℕ → Bool
@@ -38,22 +45,28 @@ isLive s i = isUsed s i && (eqb (s ends i) 0 && not (isWhole s i))
 
 -- the owner: the giver of side 0, the taker of side 1
 abbrev pub isOwner : State → ℕ → ℕ → Bool
-isOwner s i p = (eqb (s sides i) 0 && eqb (s givers i) p) || (eqb (s sides i) 1 && eqb (s takers i) p)
+isOwner s i p = (eqb (s sides i) giverSide && eqb (s givers i) p) || (eqb (s sides i) takerSide && eqb (s takers i) p)
 
 -- "the taker is automatic, or lists that giver", by the profile in force
 abbrev pub acceptsGiver : State → ℕ → ℕ → Bool
-acceptsGiver s taker giver = eqb (s modes taker) 1 || (eqb (s modes taker) 2 && hasBit (s lists taker) giver)
+acceptsGiver s taker giver = eqb (s modes taker) (storedMode automatic) || (eqb (s modes taker) (storedMode byList) && hasBit (s lists taker) giver)
 
 -- both parties allow partial settlement now
 abbrev pub allowPartial : State → ℕ → ℕ → Bool
 allowPartial s giver taker = eqb (s partials giver) 1 && eqb (s partials taker) 1
 
--- an exposure row with a key: "its giver, taker, basket and closing date"
-abbrev pub hasKey : State → ℕ → ℕ → ℕ → ℕ → ℕ → Bool
-hasKey s giver taker basket closing e =
-    eqb (s inUse e) 1 && (eqb (s exposureGivers e) giver && (eqb (s exposureTakers e) taker && (eqb (s exposureBaskets e) basket && eqb (s exposureClosings e) closing)))
+-- the exposure row is used; "used exposure of that giver (and taker)"
+abbrev pub isInUse : State → ℕ → Bool
+isInUse s e = eqb (s inUse e) 1
 
--- the row of that exposure, 64 where there is none; and the lowest free row
+abbrev pub isExposureOf : State → ℕ → ℕ → ℕ → Bool
+isExposureOf s giver taker e = isInUse s e && (eqb (s exposureGivers e) giver && eqb (s exposureTakers e) taker)
+
+-- a used exposure with a key: "its giver, taker, basket and closing date"
+abbrev pub hasKey : State → ℕ → ℕ → ℕ → ℕ → ℕ → Bool
+hasKey s giver taker basket closing e = isInUse s e && rowIs s keyTables e (giver ∷ taker ∷ basket ∷ closing ∷ [])
+
+-- its row, 64 where there is none; and "the lowest free row", 64 where there is none
 abbrev pub exposureWith : State → ℕ → ℕ → ℕ → ℕ → ℕ
 exposureWith s giver taker basket closing = least (hasKey s giver taker basket closing) 64 0
 
@@ -66,4 +79,4 @@ freeRow s = least (λ i. eqb (s numbers i) 0) 256 0
 
 -- the exposure that a FOP row belongs to when paired
 abbrev pub exposureOfFop : State → ℕ → ℕ
-exposureOfFop s i = exposureWith s (s givers i) (s takers i) (s objects i) (s closings i)
+exposureOfFop s i = exposureWith s (s givers i) (s takers i) (s basketsOrExposures i) (s closings i)

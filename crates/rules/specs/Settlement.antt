@@ -5,8 +5,9 @@ use mathlib.Core.List.{List, [], _∷_, _++_}
 use Prim.Native.Nat.{ℕ, zero, suc, _+_, _*_, _-_, min}
 use lib.Dec.{eqb, leb, ltb}
 use Rattle.laws.specs.Search.{leastBy}
-use Rattle.book.specs.Layout.{today, tolerance, numbers, kinds, objects, settlements, settledAmounts, pairPartials, exposures}
+use Rattle.book.specs.Layout.{today, tolerance, numbers, requestKinds, basketsOrExposures, settlements, settledAmounts, pairPartials, exposureAmounts}
 use Rattle.book.specs.State.{State, put}
+use Rattle.rules.specs.Fields.{fopKind, returnKind}
 use Rattle.rules.specs.Outcome.{Step, Event, settled, returned}
 use Rattle.rules.specs.Requests.{isLive, isPaired, partnerOf, restOf, exposureOfFop}
 use Rattle.rules.specs.Stock.{eligibleFor, pickFor, freeFor, pledge, giveBack}
@@ -27,7 +28,7 @@ orderOf s i = s settlements i * 4294967296 + s numbers i
 abbrev pub isDue : State → ℕ → ℕ → ℕ → Bool
 isDue s kind last i =
     isLive s i
-    && (isPaired s i && (eqb (s kinds i) kind && (ltb (s numbers (partnerOf s i)) (s numbers i) && (leb (s settlements i) (s today 0) && ltb last (orderOf s i)))))
+    && (isPaired s i && (eqb (s requestKinds i) kind && (ltb (s numbers (partnerOf s i)) (s numbers i) && (leb (s settlements i) (s today 0) && ltb last (orderOf s i)))))
 
 abbrev pub nextDue : State → ℕ → ℕ → ℕ
 nextDue s kind last = leastBy (isDue s kind last) (orderOf s) 256 256
@@ -38,15 +39,15 @@ bothSettled s i x = put (put s settledAmounts i (s settledAmounts i + x)) settle
 
 -- "A return settles the lesser of its rest and the exposure, lowers the exposure and Frees."
 abbrev pub returnAmount : State → ℕ → ℕ
-returnAmount s i = min (restOf s i) (s exposures (s objects i))
+returnAmount s i = min (restOf s i) (s exposureAmounts (s basketsOrExposures i))
 
 -- the state after a return: both rows, the exposure, and what it no longer needs given back
 unfoldable pub returnSettled : State → ℕ → State
 returnSettled s i =
-    let e = s objects i in
+    let e = s basketsOrExposures i in
     let x = returnAmount s i in
-    let lower = put (bothSettled s i x) exposures e (s exposures e - x) in
-    giveBack lower e (freeFor lower e (s exposures e - x) .nominals)
+    let lower = put (bothSettled s i x) exposureAmounts e (s exposureAmounts e - x) in
+    giveBack lower e (freeFor lower e (s exposureAmounts e - x) .nominals)
 
 -- "B: returns changed, M: cents settled": a return that settles nothing changes nothing
 unfoldable pub settleReturn : Settling → ℕ → Settling
@@ -54,7 +55,7 @@ settleReturn w i =
     let s = w .state in
     let x = returnAmount s i in
     cond (eqb x 0) w
-    (record { state = returnSettled s i; fops = w .fops; returns = w .returns + 1; cents = w .cents + x; events = w .events ++ (returned (s objects i) x ∷ []) })
+    (record { state = returnSettled s i; fops = w .fops; returns = w .returns + 1; cents = w .cents + x; events = w .events ++ (returned (s basketsOrExposures i) x ∷ []) })
 
 -- "A FOP Picks its rest: if the value found falls short by less than the tolerance, the whole rest settles; else, if both parties
 -- allowed partial when they paired and something was found, the value found settles; else nothing moves."
@@ -65,7 +66,7 @@ found s i = pickFor s (exposureOfFop s i) (eligibleFor s (exposureOfFop s i)) (r
 -- what a FOP settles: 0 where it waits or nothing moves
 unfoldable pub fopAmount : State → ℕ → ℕ
 fopAmount s i =
-    cond (ltb 10000000000000 (s exposures (exposureOfFop s i) + restOf s i)) 0
+    cond (ltb 10000000000000 (s exposureAmounts (exposureOfFop s i) + restOf s i)) 0
     (cond (ltb (restOf s i - found s i) (s tolerance 0)) (restOf s i)
     (cond (eqb (s pairPartials i) 1) (found s i) 0))
 
@@ -74,7 +75,7 @@ unfoldable pub fopSettled : State → ℕ → State
 fopSettled s i =
     let e = exposureOfFop s i in
     let x = fopAmount s i in
-    pledge (put (bothSettled s i x) exposures e (s exposures e + x)) e (pickFor s e (eligibleFor s e) (restOf s i) .nominals)
+    pledge (put (bothSettled s i x) exposureAmounts e (s exposureAmounts e + x)) e (pickFor s e (eligibleFor s e) (restOf s i) .nominals)
 
 -- "A: FOPs changed, M: cents settled": a FOP that settles nothing changes nothing
 unfoldable pub settleFop : Settling → ℕ → Settling
@@ -93,7 +94,7 @@ settleAll kind settle (suc n) last w =
 
 -- "returns before FOPs"
 unfoldable pub allSettled : State → Settling
-allSettled s = settleAll 6 settleFop 256 0 (settleAll 7 settleReturn 256 0 (record { state = s; fops = 0; returns = 0; cents = 0; events = [] }))
+allSettled s = settleAll fopKind settleFop 256 0 (settleAll returnKind settleReturn 256 0 (record { state = s; fops = 0; returns = 0; cents = 0; events = [] }))
 
 -- 9: "A: FOPs changed, B: returns changed, M: cents settled by both."
 unfoldable pub settlement : State → Step

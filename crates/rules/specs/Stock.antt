@@ -1,13 +1,14 @@
 -- Accounts, positions and securities: what a Pick or a Free is given out of the state, and how bonds move.
 -- Assumes nothing.
-use mathlib.Core.Bool.{Bool, not}
+use mathlib.Core.Bool.{Bool, not, _&&_, cond}
 use mathlib.Core.List.{List}
-use Prim.Native.Nat.{ℕ, _*_, _-_}
+use Prim.Native.Nat.{ℕ, _+_, _*_}
 use lib.Dec.{eqb}
 use Rattle.baskets.specs.Basket.{eligible}
 use Rattle.baskets.specs.declared.Basket.{Basket}
-use Rattle.book.specs.Layout.{today, lots, modes, maps, ages, accounts, positions, exposureGivers, exposureBaskets}
+use Rattle.book.specs.Layout.{today, lots, modes, maps, greatestAges, accounts, positions, inUse, exposureGivers, exposureBaskets}
 use Rattle.book.specs.State.{State, rowAt, columnsOf, raised, lowered}
+use Rattle.laws.specs.Sum.{sum}
 use Rattle.picking.specs.Free.{freed}
 use Rattle.picking.specs.Pick.{picked}
 use Rattle.picking.specs.declared.Freed.{Freed}
@@ -37,7 +38,7 @@ valueOf s e = worth (columnsOf s) (nominalsOf (positionOf s e))
 
 -- the basket of an exposure, and the securities eligible for it today
 abbrev pub basketOf : State → ℕ → Basket
-basketOf s e = record { map = s maps (s exposureBaskets e); oldest = s ages (s exposureBaskets e) }
+basketOf s e = record { map = s maps (s exposureBaskets e); oldest = s greatestAges (s exposureBaskets e) }
 
 abbrev pub eligibleFor : State → ℕ → ℕ → Bool
 eligibleFor s e i = eligible (basketOf s e) (s today 0) (columnsOf s) i
@@ -56,3 +57,10 @@ giveBack s e nominals = raised (lowered s positions (64 * e) nominals) accounts 
 -- Free an exposure's position down to an amount
 abbrev pub freeFor : State → ℕ → ℕ → Freed
 freeFor s e amount = freed (columnsOf s) (positionOf s e) amount
+
+-- "account plus positions of a giver in one security"
+abbrev pub positionFrom : State → ℕ → ℕ → ℕ → ℕ
+positionFrom s p i e = cond (eqb (s inUse e) 1 && eqb (s exposureGivers e) p) (s positions (64 * e + i)) 0
+
+unfoldable pub holding : State → ℕ → ℕ → ℕ
+holding s p i = s accounts (64 * p + i) + sum (positionFrom s p i) 64

@@ -7,7 +7,7 @@ use native.Mathlib.Decide.{ℕ-discrete}
 use native.Mathlib.Omega.{arith}
 use lib.Dec.{eqb}
 use borrow.Author.Tests.{eq-eqb, ne-eqb, eqb-false}
-use Rattle.book.specs.Layout.{kinds}
+use Rattle.book.specs.Layout.{requestKinds}
 use Rattle.book.specs.State.{State}
 use Rattle.rules.specs.Settlement.{Settling, returnAmount, fopAmount, returnSettled, fopSettled, settleReturn, settleFop, settleAll, settlement, allSettled, nextDue, orderOf}
 use Rattle.laws.proofs.Cases.{either}
@@ -68,14 +68,14 @@ module _ (s : State) (kind i : ℕ) (g : Good s) (p : PairOf s kind i) where
   good-return k =
       ⊎-elim
       (λ e. rw e g)
-      (λ e. rw e (return-good s i g (p .below) (p .used) (p .paired) (eq-eqb (s kinds i) 7 (p .kind-is ∙ k))))
+      (λ e. rw e (return-good s i g (p .below) (p .used) (p .paired) (eq-eqb (s requestKinds i) 7 (p .kind-is ∙ k))))
       (either (eqb (returnAmount s i) 0))
 
   good-fop : (kind ≡ 7 → ⊥) → Good (fopLeft s i)
   good-fop k =
       ⊎-elim
       (λ e. rw e g)
-      (λ e. rw e (fop-good s i g (p .below) (p .used) (p .paired) (eq-eqb (s kinds i) 6 (fop-kind g p k .kind-is)) (eqb-false (fopAmount s i) 0 e)))
+      (λ e. rw e (fop-good s i g (p .below) (p .used) (p .paired) (eq-eqb (s requestKinds i) 6 (fop-kind g p k .kind-is)) (eqb-false (fopAmount s i) 0 e)))
       (either (eqb (fopAmount s i) 0))
 
   prices-return : SamePrices s (returnLeft s i)

@@ -9,32 +9,32 @@ use native.Mathlib.Omega.{arith}
 use lib.Dec.{eqb}
 use borrow.Author.Tests.{eq-eqb, ne-eqb, eqb-false}
 use Rattle.laws.proofs.Cases.{either}
-use Rattle.book.specs.Layout.{kinds, objects, exposures}
+use Rattle.book.specs.Layout.{requestKinds, basketsOrExposures, exposureAmounts}
 use Rattle.book.specs.State.{State}
 use Rattle.facts.proofs.Sums.{Sums, noted, allNoted, noted-one}
 use Rattle.rules.specs.Outcome.{settled, returned}
 use Rattle.rules.specs.Requests.{exposureOfFop}
 use Rattle.rules.specs.Settlement.{Settling, orderOf, nextDue, returnAmount, returnSettled, settleReturn, fopAmount, fopSettled, settleFop, settleAll, allSettled, settlement}
-use Rattle.rules.specs.Sound.{holding}
+use Rattle.rules.specs.Stock.{holding}
 use Rattle.facts.proofs.Keeps.{Good, Amounts, Keeps}
 use Rattle.settlement_laws.proofs.Finding.{Due, due-row}
 use Rattle.settlement_laws.proofs.Settling.{return-good, return-bonds, return-within, return-exposure, return-other, fop-good, fop-bonds, fop-exposure, fop-other}
 
 -- the paper follows the exposure that changes
-module _ (s t : State) (e x : ℕ) (other : (d : ℕ) → (d ≡ e → ⊥) → t exposures d ≡ s exposures d) (p : Sums) (a : Amounts s p) where
-  pub settled-amounts : t exposures e ≡ s exposures e + x → Amounts t (noted p (settled e x))
+module _ (s t : State) (e x : ℕ) (other : (d : ℕ) → (d ≡ e → ⊥) → t exposureAmounts d ≡ s exposureAmounts d) (p : Sums) (a : Amounts s p) where
+  pub settled-amounts : t exposureAmounts e ≡ s exposureAmounts e + x → Amounts t (noted p (settled e x))
   settled-amounts own d =
       let before = a d in
       elim (ℕ-discrete d e) [
-        | yes q ↦ rw (eq-eqb d e q) (let now : t exposures d ≡ s exposures d + x = rw q own in omega arith)
+        | yes q ↦ rw (eq-eqb d e q) (let now : t exposureAmounts d ≡ s exposureAmounts d + x = rw q own in omega arith)
         | no n ↦ rw (ne-eqb d e n) (omega (arith, other d n))
       ]
 
-  pub returned-amounts : x ≤ s exposures e → t exposures e ≡ s exposures e - x → Amounts t (noted p (returned e x))
+  pub returned-amounts : x ≤ s exposureAmounts e → t exposureAmounts e ≡ s exposureAmounts e - x → Amounts t (noted p (returned e x))
   returned-amounts within own d =
       let before = a d in
       elim (ℕ-discrete d e) [
-        | yes q ↦ rw (eq-eqb d e q) (let now : t exposures d ≡ s exposures d - x = rw q own in let some : x ≤ s exposures d = rw q within in omega arith)
+        | yes q ↦ rw (eq-eqb d e q) (let now : t exposureAmounts d ≡ s exposureAmounts d - x = rw q own in let some : x ≤ s exposureAmounts d = rw q within in omega arith)
         | no n ↦ rw (ne-eqb d e n) (omega (arith, other d n))
       ]
 
@@ -49,15 +49,15 @@ module _ (s : State) where
   unfolding settleReturn
   return-kept w i last k d =
       let t = w .state in
-      let kind = eq-eqb (t kinds i) 7 (d .same-kind) in
+      let kind = eq-eqb (t requestKinds i) 7 (d .same-kind) in
       ⊎-elim
       (λ e. rw e k)
       (λ e. rw e (record {
         good = return-good t i (k .good) (d .below) (d .used) (d .paired) kind;
         bonds = λ p j m l. return-bonds t i (k .good) (d .below) (d .used) (d .paired) kind p j m l ∙ k .bonds p j m l;
         amounts = λ p a.
-            rw (noted-one p (w .events) (returned (t objects i) (returnAmount t i)))
-            (returned-amounts t (returnSettled t i) (t objects i) (returnAmount t i) (return-other t i) (allNoted p (w .events)) (k .amounts p a) (return-within t i) (return-exposure t i));
+            rw (noted-one p (w .events) (returned (t basketsOrExposures i) (returnAmount t i)))
+            (returned-amounts t (returnSettled t i) (t basketsOrExposures i) (returnAmount t i) (return-other t i) (allNoted p (w .events)) (k .amounts p a) (return-within t i) (return-exposure t i));
       }))
       (either (eqb (returnAmount t i) 0))
 
@@ -65,7 +65,7 @@ module _ (s : State) where
   unfolding settleFop
   fop-kept w i last k d =
       let t = w .state in
-      let kind = eq-eqb (t kinds i) 6 (d .same-kind) in
+      let kind = eq-eqb (t requestKinds i) 6 (d .same-kind) in
       ⊎-elim
       (λ e. rw e k)
       (λ e. rw e (record {

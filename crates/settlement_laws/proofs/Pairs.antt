@@ -15,7 +15,8 @@ use Rattle.book.specs.State.{State, put}
 use Rattle.book.proofs.Images.{put-cases, put-fits}
 use Rattle.rules.specs.Requests.{isUsed, isPaired, partnerOf, restOf}
 use Rattle.rules.specs.Settlement.{bothSettled}
-use Rattle.rules.specs.Sound.{holding, soundRow}
+use Rattle.rules.specs.Stock.{holding}
+use Rattle.rules.specs.ByRow.{soundRow}
 use Rattle.facts.proofs.Keeps.{Good}
 use Rattle.facts.proofs.Rows.{Fields, Kind, fop, return, Pair, used-fields, used-paired, used-unpaired, unused-blank, blank-sound}
 

@@ -10,13 +10,12 @@ use native.Mathlib.Omega.{arith}
 use lib.Dec.{eqb, ltb}
 use borrow.Author.Tests.{eqb-true, ltb-false}
 use Rattle.laws.proofs.Cases.{either}
-use Rattle.book.specs.Layout.{tolerance, kinds, objects, pairPartials, inUse, exposureGivers, exposures, accounts, positions}
+use Rattle.book.specs.Layout.{tolerance, requestKinds, basketsOrExposures, pairPartials, inUse, exposureGivers, exposureAmounts, accounts, positions}
 use Rattle.book.specs.State.{State, put, lowered, Raisable, Lowerable}
 use Rattle.book.proofs.Images.{put-same, put-other}
 use Rattle.rules.specs.Requests.{isUsed, isFop, isReturn, isPaired, restOf, exposureOfFop}
 use Rattle.rules.specs.Settlement.{bothSettled, returnAmount, returnSettled, found, fopAmount, fopSettled}
-use Rattle.rules.specs.Sound.{holding}
-use Rattle.rules.specs.Stock.{eligibleFor, pickFor, freeFor}
+use Rattle.rules.specs.Stock.{eligibleFor, pickFor, freeFor, holding}
 use Rattle.facts.proofs.Keeps.{Good}
 use Rattle.facts.proofs.Rows.{Return, Kind, fop, return, used-fields, used-paired, used-exposure}
 use Rattle.bond_laws.proofs.Keeping.{giver-below, good-pledge, good-amount, good-lowered}
@@ -27,19 +26,19 @@ use Rattle.settlement_laws.proofs.Pairs.{good-both}
 
 -- what a return's own fields say
 return-of : (s : State) (i : ℕ) → Kind s i → isReturn s i ≡ true → Return s i
-return-of s i (fop e f) r = absurd (omega (arith, eqb-true (s kinds i) 7 r))
+return-of s i (fop e f) r = absurd (omega (arith, eqb-true (s requestKinds i) 7 r))
 return-of s i (return e f) r = f
 
 module _ (s : State) (i : ℕ) where
   -- a return: the exposure, what is left of it, and the book between the amounts and the bonds
   abbrev named : ℕ
-  named = s objects i
+  named = s basketsOrExposures i
 
   abbrev left : ℕ
-  left = s exposures named - returnAmount s i
+  left = s exposureAmounts named - returnAmount s i
 
   abbrev pub amountLowered : State
-  amountLowered = put (bothSettled s i (returnAmount s i)) exposures named left
+  amountLowered = put (bothSettled s i (returnAmount s i)) exposureAmounts named left
 
   abbrev pub givenBack : List ℕ
   givenBack = freeFor amountLowered named left .nominals
@@ -49,35 +48,35 @@ module _ (s : State) (i : ℕ) where
   target = exposureOfFop s i
 
   abbrev pub amountRaised : State
-  amountRaised = put (bothSettled s i (fopAmount s i)) exposures target (s exposures target + fopAmount s i)
+  amountRaised = put (bothSettled s i (fopAmount s i)) exposureAmounts target (s exposureAmounts target + fopAmount s i)
 
   abbrev pub takenIn : List ℕ
   takenIn = pickFor s target (eligibleFor s target) (restOf s i) .nominals
 
   -- the amounts: the exposure's own, and any other
-  pub return-within : returnAmount s i ≤ s exposures named
+  pub return-within : returnAmount s i ≤ s exposureAmounts named
   return-within = omega arith
 
-  pub return-exposure : returnSettled s i exposures named ≡ s exposures named - returnAmount s i
+  pub return-exposure : returnSettled s i exposureAmounts named ≡ s exposureAmounts named - returnAmount s i
   unfolding returnSettled
-  return-exposure = put-same (bothSettled s i (returnAmount s i)) exposures named left
+  return-exposure = put-same (bothSettled s i (returnAmount s i)) exposureAmounts named left
 
-  pub return-other : (d : ℕ) → (d ≡ named → ⊥) → returnSettled s i exposures d ≡ s exposures d
+  pub return-other : (d : ℕ) → (d ≡ named → ⊥) → returnSettled s i exposureAmounts d ≡ s exposureAmounts d
   unfolding returnSettled
-  return-other d n = put-other (bothSettled s i (returnAmount s i)) exposures named left d n
+  return-other d n = put-other (bothSettled s i (returnAmount s i)) exposureAmounts named left d n
 
-  pub fop-exposure : fopSettled s i exposures target ≡ s exposures target + fopAmount s i
+  pub fop-exposure : fopSettled s i exposureAmounts target ≡ s exposureAmounts target + fopAmount s i
   unfolding fopSettled
-  fop-exposure = put-same (bothSettled s i (fopAmount s i)) exposures target (s exposures target + fopAmount s i)
+  fop-exposure = put-same (bothSettled s i (fopAmount s i)) exposureAmounts target (s exposureAmounts target + fopAmount s i)
 
-  pub fop-other : (d : ℕ) → (d ≡ target → ⊥) → fopSettled s i exposures d ≡ s exposures d
+  pub fop-other : (d : ℕ) → (d ≡ target → ⊥) → fopSettled s i exposureAmounts d ≡ s exposureAmounts d
   unfolding fopSettled
-  fop-other d n = put-other (bothSettled s i (fopAmount s i)) exposures target (s exposures target + fopAmount s i) d n
+  fop-other d n = put-other (bothSettled s i (fopAmount s i)) exposureAmounts target (s exposureAmounts target + fopAmount s i) d n
 
   -- at most the rest of a FOP settles, and nothing where the rest would take the exposure above 10^13
   pub fop-within : fopAmount s i ≤ restOf s i
   unfolding fopAmount
-  fop-within = at-most (ltb 10000000000000 (s exposures target + restOf s i)) (ltb (restOf s i - found s i) (s tolerance 0)) (eqb (s pairPartials i) 1)
+  fop-within = at-most (ltb 10000000000000 (s exposureAmounts target + restOf s i)) (ltb (restOf s i - found s i) (s tolerance 0)) (eqb (s pairPartials i) 1)
     where
       at-most : (a b c : Bool) → cond a 0 (cond b (restOf s i) (cond c (found s i) 0)) ≤ restOf s i
       at-most true b c = omega arith
@@ -85,10 +84,10 @@ module _ (s : State) (i : ℕ) where
       at-most false false true = pick-value s target (eligibleFor s target) (restOf s i)
       at-most false false false = omega arith
 
-  pub fop-room : (fopAmount s i ≡ 0 → ⊥) → s exposures target + restOf s i ≤ 10000000000000
+  pub fop-room : (fopAmount s i ≡ 0 → ⊥) → s exposureAmounts target + restOf s i ≤ 10000000000000
   unfolding fopAmount
   fop-room n =
-      let most = s exposures target + restOf s i in
+      let most = s exposureAmounts target + restOf s i in
       ⊎-elim (λ e. absurd (n (rw e))) (λ e. ltb-false 10000000000000 most e) (either (ltb 10000000000000 most))
 
 module _ (s : State) (i : ℕ) (h : Good s) (below : i < 256) (used : isUsed s i ≡ true) (paired : isPaired s i ≡ true) where
@@ -105,7 +104,7 @@ module _ (s : State) (i : ℕ) (h : Good s) (below : i < 256) (used : isUsed s i
         let small = used-exposure s (named s i) (h .facts .exposure (named s i) (return-names .exposure-below)) (return-names .exposure-used) .amount in
         good-lowered (bothSettled s i (returnAmount s i)) (named s i) (left s i) (givenBack s i) pair (return-names .exposure-below) (return-names .exposure-used) (omega arith)
         (record { enough = back .enough; whole = back .whole })
-        (λ z k l. rw (z, givenBack) (free-all (put (bothSettled s i (returnAmount s i)) exposures (named s i) 0) (named s i) k l (position-lots s (h .facts) (named s i) k (return-names .exposure-below) l)))
+        (λ z k l. rw (z, givenBack) (free-all (put (bothSettled s i (returnAmount s i)) exposureAmounts (named s i) 0) (named s i) k l (position-lots s (h .facts) (named s i) k (return-names .exposure-below) l)))
 
     -- what the two moves of the bonds that go back count on
     pub return-lowerable : Lowerable (amountLowered s i) positions (64 * named s i) (givenBack s i)
@@ -126,7 +125,7 @@ module _ (s : State) (i : ℕ) (h : Good s) (below : i < 256) (used : isUsed s i
     pub fop-below : target s i < 64
     fop-below =
         ⊎-elim
-        (λ r. absurd (omega (arith, eqb-true (s kinds i) 6 kind, eqb-true (s kinds i) 7 r)))
+        (λ r. absurd (omega (arith, eqb-true (s requestKinds i) 6 kind, eqb-true (s requestKinds i) 7 r)))
         (λ l. l)
         (used-paired s i (h .facts .row i below) used paired .belongs)
 
@@ -140,10 +139,10 @@ module _ (s : State) (i : ℕ) (h : Good s) (below : i < 256) (used : isUsed s i
     unfolding fopSettled
     fop-good n =
         let both = bothSettled s i (fopAmount s i) in
-        let more = s exposures (target s i) + fopAmount s i in
+        let more = s exposureAmounts (target s i) + fopAmount s i in
         let pair = good-both s i (fopAmount s i) h below used paired (fop-within s i) in
         let raised = good-amount both (target s i) more pair fop-below fop-target (omega (arith, fop-within s i, fop-room s i n)) (λ z. absurd (omega arith)) in
-        good-pledge (amountRaised s i) (target s i) (takenIn s i) raised fop-below fop-target (λ z. omega (arith, put-same both exposures (target s i) more)) taken-whole
+        good-pledge (amountRaised s i) (target s i) (takenIn s i) raised fop-below fop-target (λ z. omega (arith, put-same both exposureAmounts (target s i) more)) taken-whole
 
     -- what the two moves of the bonds that come in count on
     pub fop-lowerable : Lowerable (amountRaised s i) accounts (64 * s exposureGivers (target s i)) (takenIn s i)

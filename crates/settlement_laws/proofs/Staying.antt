@@ -8,7 +8,7 @@ use native.Mathlib.Decide.{ℕ-discrete}
 use native.Mathlib.Omega.{arith}
 use borrow.Author.Tests.{ne-eqb, le-ltb}
 use Rattle.laws.specs.Search.{leastBy}
-use Rattle.book.specs.Layout.{today, numbers, kinds, amounts, settlements, settledAmounts, partners, ends}
+use Rattle.book.specs.Layout.{today, numbers, requestKinds, amounts, settlements, settledAmounts, partners, ends}
 use Rattle.book.specs.State.{State}
 use Rattle.rules.specs.Requests.{partnerOf}
 use Rattle.rules.specs.Settlement.{orderOf, isDue, nextDue, returnSettled, fopSettled}
@@ -49,7 +49,7 @@ not-later s kind l k h = rw (le-ltb (s numbers (partnerOf s k)) (s numbers k) h)
 record SameBut (s t : State) (i j : ℕ) : Type 0 where
   day : t today 0 ≡ s today 0
   number : (k : ℕ) → t numbers k ≡ s numbers k
-  kind : (k : ℕ) → t kinds k ≡ s kinds k
+  kind : (k : ℕ) → t requestKinds k ≡ s requestKinds k
   amount : (k : ℕ) → t amounts k ≡ s amounts k
   settlement : (k : ℕ) → t settlements k ≡ s settlements k
   partner : (k : ℕ) → t partners k ≡ s partners k

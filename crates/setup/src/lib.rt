@@ -9,7 +9,7 @@ ghost use Rattle.records.specs.Writing.{areLegal};
 ghost use Rattle.rules.specs.Codes.{openingRules, priceRules, basketRules};
 ghost use Rattle.rules.specs.Outcome.{lowest};
 ghost use Rattle.rules.specs.SetUp.{opened, priced, enrolled, basketMade};
-use book::layout::AGES;
+use book::layout::GREATEST_AGES;
 use book::layout::HAIRCUTS;
 use book::layout::LISTS;
 use book::layout::LOTS;
@@ -18,7 +18,7 @@ use book::layout::MODES;
 use book::layout::NEXT_NUMBER;
 use book::layout::PARTIALS;
 use book::layout::PRICES;
-use book::layout::QUOTES;
+use book::layout::QUOTE_DAYS;
 use book::layout::TODAY;
 use book::layout::TOLERANCE;
 use book::layout::WAITING_LISTS;
@@ -83,7 +83,7 @@ pub fn price(book: &mut [u8], fields: &[u64; 8])
     book::set(book, LOTS, i, fields[1]);
     book::set(book, PRICES, i, fields[2]);
     book::set(book, HAIRCUTS, i, fields[3]);
-    book::set(book, QUOTES, i, fields[4]);
+    book::set(book, QUOTE_DAYS, i, fields[4]);
 }
 
 // 2: a participant's profile: at once where it is the first, else it waits for the next day.
@@ -122,5 +122,5 @@ pub fn make_basket(book: &mut [u8], fields: &[u64; 8])
 {
     let b = fields[0] as usize;
     book::set(book, MAPS, b, fields[1]);
-    book::set(book, AGES, b, fields[2]);
+    book::set(book, GREATEST_AGES, b, fields[2]);
 }

@@ -6,13 +6,13 @@ use mathlib.Core.List.{[], _∷_}
 use mathlib.Core.Logic.{⊎-elim}
 use Prim.Native.Nat.{ℕ}
 use lib.Dec.{eqb, leb, ltb}
-use Rattle.laws.specs.Search.{all}
+use Rattle.laws.specs.Search.{all, between}
 use Rattle.laws.proofs.Cases.{either}
 use Rattle.calendar.specs.Target.{openDay}
-use Rattle.book.specs.Layout.{tolerance, nextNumber, numbers, sides, givers, takers, objects, amounts, settlements, closings, inUse, exposureGivers, exposureTakers, exposureBaskets, exposureClosings, exposures}
+use Rattle.book.specs.Layout.{tolerance, nextNumber, numbers, sides, givers, takers, basketsOrExposures, amounts, settlements, closings, inUse, exposureGivers, exposureTakers, exposureBaskets, exposureClosings, exposureAmounts}
 use Rattle.book.specs.State.{State}
-use Rattle.rules.specs.Requests.{isUsed, isFop, isReturn, isPaired}
-use Rattle.rules.specs.Sound.{between, openOrNone, soundParties, basketNamed, soundFop, soundReturn, soundKind, soundMarks, soundFields, soundPaired, soundUnpaired, soundRow, soundExposure}
+use Rattle.rules.specs.Requests.{isUsed, isFop, isReturn, isPaired, openOrNone}
+use Rattle.rules.specs.ByRow.{soundParties, basketNamed, soundFop, soundReturn, soundKind, soundMarks, soundFields, soundPaired, soundUnpaired, soundRow, soundExposure}
 use Rattle.rules.specs.Stock.{participantSetUp, basketSetUp}
 use Rattle.facts.proofs.Truth.{split, join}
 
@@ -46,9 +46,9 @@ module _ (s x : State) (m : More s x) where
   module _ (i : ℕ) where
     fop-more : soundFop s i ≡ true → soundFop (setUpBy s x) i ≡ true
     fop-more h =
-        let t = split (basketNamed s (s objects i) ∷ between (s tolerance 0) 1000000000000 (s amounts i) ∷ openOrNone (s closings i) ∷ []) h in
-        join (basketNamed x (s objects i) ∷ between (x tolerance 0) 1000000000000 (s amounts i) ∷ openOrNone (s closings i) ∷ [])
-        (basket-more (s objects i) (t .0), (rw (m .tolerance-same) (t .1 .0), t .1 .1))
+        let t = split (basketNamed s (s basketsOrExposures i) ∷ between (s tolerance 0) 1000000000000 (s amounts i) ∷ openOrNone (s closings i) ∷ []) h in
+        join (basketNamed x (s basketsOrExposures i) ∷ between (x tolerance 0) 1000000000000 (s amounts i) ∷ openOrNone (s closings i) ∷ [])
+        (basket-more (s basketsOrExposures i) (t .0), (rw (m .tolerance-same) (t .1 .0), t .1 .1))
 
     kind-more : soundKind s i ≡ true → soundKind (setUpBy s x) i ≡ true
     kind-more h =
@@ -78,7 +78,7 @@ module _ (s x : State) (m : More s x) where
       ⊎-elim
       (λ u. rw u (rw u at h))
       (λ u.
-      let t = split (eqb (s inUse e) 1 ∷ soundParties s (s exposureGivers e) (s exposureTakers e) ∷ basketNamed s (s exposureBaskets e) ∷ openOrNone (s exposureClosings e) ∷ leb (s exposures e) 10000000000000 ∷ []) (rw u at h) in
-      rw u (join (eqb (s inUse e) 1 ∷ soundParties x (s exposureGivers e) (s exposureTakers e) ∷ basketNamed x (s exposureBaskets e) ∷ openOrNone (s exposureClosings e) ∷ leb (s exposures e) 10000000000000 ∷ [])
+      let t = split (eqb (s inUse e) 1 ∷ soundParties s (s exposureGivers e) (s exposureTakers e) ∷ basketNamed s (s exposureBaskets e) ∷ openOrNone (s exposureClosings e) ∷ leb (s exposureAmounts e) 10000000000000 ∷ []) (rw u at h) in
+      rw u (join (eqb (s inUse e) 1 ∷ soundParties x (s exposureGivers e) (s exposureTakers e) ∷ basketNamed x (s exposureBaskets e) ∷ openOrNone (s exposureClosings e) ∷ leb (s exposureAmounts e) 10000000000000 ∷ [])
       (t .0, (parties-more (s exposureGivers e) (s exposureTakers e) (t .1 .0), (basket-more (s exposureBaskets e) (t .1 .1 .0), t .1 .1 .1)))))
       (either (eqb (s inUse e) 0))

@@ -10,23 +10,24 @@ use native.Mathlib.Decide.{ℕ-discrete}
 use native.Mathlib.Omega.{arith}
 use lib.Dec.{eqb, leb}
 use borrow.Author.Tests.{le-leb, ltb-false, eqb-true, eq-eqb, ne-eqb, not-false}
-use Rattle.laws.specs.Search.{all}
+use Rattle.laws.specs.Search.{all, between}
 use Rattle.laws.specs.Sum.{sum}
 use Rattle.laws.proofs.Cases.{either}
 use Rattle.calendar.specs.Target.{openDay}
 use Rattle.calendar.proofs.OpenDays.{open-within}
 use Rattle.record_kinds.specs.Kinds.{kinds}
 use Rattle.records.specs.Writing.{areLegal}
-use Rattle.book.specs.Layout.{today, tolerance, nextNumber, lots, prices, haircuts, quotes, modes, lists, partials, waitingModes, waitingLists, waitingPartials, maps, ages, exposures, accounts, rowsOf, widthOf}
+use Rattle.book.specs.Layout.{today, tolerance, nextNumber, lots, prices, haircuts, quoteDays, modes, lists, partials, waitingModes, waitingLists, waitingPartials, maps, greatestAges, exposureAmounts, accounts, rowsOf, widthOf}
 use Rattle.book.specs.State.{State, put, Fits}
 use Rattle.book.proofs.Images.{put-fits}
 use Rattle.book.proofs.Places.{row-of}
 use Rattle.rules.specs.Codes.{openingRules, priceRules, basketRules, depositRules, withdrawalRules}
 use Rattle.facts.proofs.Sums.{Sums, allNoted}
-use Rattle.rules.specs.Outcome.{silent, lowest, field}
+use Rattle.rules.specs.Outcome.{silent, lowest}
+use Rattle.rules.specs.Fields.{field}
 use Rattle.rules.specs.SetUp.{emptyState, opened, priced, enrolled, basketMade, deposited, withdrawn}
-use Rattle.rules.specs.Sound.{between, soundSecurity, soundProfile, soundParticipant, soundBasket, soundPosition, holding}
-use Rattle.rules.specs.Stock.{participantSetUp, securitySetUp}
+use Rattle.rules.specs.ByRow.{soundSecurity, soundProfile, soundParticipant, soundBasket, soundPosition}
+use Rattle.rules.specs.Stock.{participantSetUp, securitySetUp, holding}
 use Rattle.facts.proofs.Keeps.{Good, Keeps, Amounts}
 use Rattle.facts.proofs.Ranges.{field-in}
 use Rattle.facts.proofs.Rows.{position-facts, position-none, position-stocked}
@@ -48,7 +49,7 @@ module _ (r : List ℕ) (legal : areLegal 0 r ≡ true) (accepted : lowest (open
   unfolding opened holding sum
   opening-holds p i = refl
 
-  pub opening-amount : (e : ℕ) → opened r .state exposures e ≡ 0
+  pub opening-amount : (e : ℕ) → opened r .state exposureAmounts e ≡ 0
   unfolding opened
   opening-amount e = refl
 
@@ -137,7 +138,7 @@ module _ (s : State) (r : List ℕ) (good : Good s) (legal : areLegal 1 r ≡ tr
       let a = put s lots (field r 0) (field r 1) in
       let b = put a prices (field r 0) (field r 2) in
       let c = put b haircuts (field r 0) (field r 3) in
-      put-fits c quotes (field r 0) (field r 4)
+      put-fits c quoteDays (field r 0) (field r 4)
       (put-fits b haircuts (field r 0) (field r 3)
       (put-fits a prices (field r 0) (field r 2)
       (put-fits s lots (field r 0) (field r 1) (good .fits) (omega arith) security (omega arith))
@@ -293,7 +294,7 @@ module _ (s : State) (r : List ℕ) (good : Good s) (legal : areLegal 2 r ≡ tr
 
 -- 3: a basket, once
 abbrev basketPut : State → List ℕ → State
-basketPut s r = put (put s maps (field r 0) (field r 1)) ages (field r 0) (field r 2)
+basketPut s r = put (put s maps (field r 0) (field r 1)) greatestAges (field r 0) (field r 2)
 
 module _ (s : State) (r : List ℕ) (good : Good s) (legal : areLegal 3 r ≡ true) where
   map-given : field r 1 ≡ 0 → ⊥
@@ -327,7 +328,7 @@ module _ (s : State) (r : List ℕ) (good : Good s) (legal : areLegal 3 r ≡ tr
   basket-fits =
       let basket : field r 0 < 16 = omega (arith, field-in 3 0 r legal (omega arith) .1) in
       let map = field-in 3 1 r legal (omega arith) in
-      put-fits (put s maps (field r 0) (field r 1)) ages (field r 0) (field r 2)
+      put-fits (put s maps (field r 0) (field r 1)) greatestAges (field r 0) (field r 2)
       (put-fits s maps (field r 0) (field r 1) (good .fits) (omega arith) basket (omega arith))
       (omega arith)
       basket

@@ -15,7 +15,7 @@ use Rattle.laws.proofs.Cases.{either}
 use Rattle.laws.proofs.Least.{all-at}
 use Rattle.book.specs.Layout.{inUse, exposureGivers, exposureTakers, exposureBaskets, exposureClosings}
 use Rattle.book.specs.State.{State}
-use Rattle.rules.specs.Sound.{same, alike, otherKey, distinctKey}
+use Rattle.rules.specs.ByRow.{same, alike, otherKey, distinctKey}
 use Rattle.facts.proofs.Facts.{all-of}
 use Rattle.exposure_search.specs.Slots.{slotOf}
 use Rattle.sound_exposures.specs.Keys.{KeysMarked}

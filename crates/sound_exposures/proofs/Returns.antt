@@ -10,9 +10,10 @@ use lib.Dec.{eqb, leb}
 use borrow.Author.Tests.{eq-eqb, ne-eqb, not-true, not-false}
 use Rattle.laws.specs.Filled.{filled}
 use Rattle.laws.specs.Search.{all}
-use Rattle.book.specs.Layout.{inUse, exposureGivers, exposureTakers, exposureBaskets, exposureClosings, exposures}
+use Rattle.book.specs.Layout.{inUse, exposureGivers, exposureTakers, exposureBaskets, exposureClosings, exposureAmounts}
 use Rattle.book.specs.State.{State}
-use Rattle.rules.specs.Sound.{openOrNone, soundParties, basketNamed, alike, blank, soundExposure, otherKey, distinctKey}
+use Rattle.rules.specs.Requests.{openOrNone}
+use Rattle.rules.specs.ByRow.{soundParties, basketNamed, alike, blank, soundExposure, otherKey, distinctKey}
 use Rattle.facts.proofs.Rows.{used-exposure, no-exposure, used-or-not}
 use Rattle.row_tests.specs.Rows.{InRows}
 use Rattle.row_tests.proofs.InRows.{in-rows}
@@ -30,7 +31,7 @@ module _ (s : State) (e : ℕ) {u : ℕ} (q : u ≡ s inUse e) where
   abbrev used-tests : Bool
   used-tests =
       soundParties s (s exposureGivers e) (s exposureTakers e)
-      && (basketNamed s (s exposureBaskets e) && (openOrNone (s exposureClosings e) && leb (s exposures e) 10000000000000))
+      && (basketNamed s (s exposureBaskets e) && (openOrNone (s exposureClosings e) && leb (s exposureAmounts e) 10000000000000))
 
   by-tests : (u ≡ 0 → ⊥) → u ≡ 1 → soundExposure s e ≡ used-tests
   by-tests z o = rw (ne-eqb (s inUse e) 0 (λ p. z (q ∙ p)), eq-eqb (s inUse e) 1 (sym q ∙ o))
@@ -59,7 +60,7 @@ module _ (s : State) (e : ℕ) {u : ℕ} (q : u ≡ s inUse e) where
         pub bad-closing : not c ≡ true → false ≡ soundExposure s e
         bad-closing f = rw (by-tests z o, sym closing ∙ not-true c f, and-false, and-false)
 
-        pub by-amount : not c ≡ false → {a : ℕ} → a ≡ s exposures e → leb a 10000000000000 ≡ soundExposure s e
+        pub by-amount : not c ≡ false → {a : ℕ} → a ≡ s exposureAmounts e → leb a 10000000000000 ≡ soundExposure s e
         by-amount f aq = rw (by-tests z o, sym parties ∙ not-false p pf, sym basket ∙ not-false b bf, sym closing ∙ not-false c f, ← aq)
 
 -- the key of another exposure

@@ -6,14 +6,14 @@ ghost use lib.ListN.{length};
 ghost use Rattle.laws.specs.Search.{all};
 ghost use Rattle.book.specs.Layout.{bookLength};
 ghost use Rattle.book.specs.State.{state};
-ghost use Rattle.rules.specs.Sound.{soundExposure, otherKey, distinctKey};
+ghost use Rattle.rules.specs.ByRow.{soundExposure, otherKey, distinctKey};
 ghost use Rattle.open_days.specs.Days.{OpenDays};
 ghost use Rattle.sound_exposures.specs.Keys.{KeysMarked};
+use book::layout::EXPOSURE_AMOUNTS;
 use book::layout::EXPOSURE_BASKETS;
 use book::layout::EXPOSURE_CLOSINGS;
 use book::layout::EXPOSURE_GIVERS;
 use book::layout::EXPOSURE_TAKERS;
-use book::layout::EXPOSURES;
 use book::layout::IN_USE;
 
 fn is_sound_exposure(book: &[u8], e: usize, days: &[u64; 16]) -> bool
@@ -40,7 +40,7 @@ fn is_sound_exposure(book: &[u8], e: usize, days: &[u64; 16]) -> bool
     if !open_days::is_open_or_none(days, book::get(book, EXPOSURE_CLOSINGS, e)) {
         return false;
     }
-    book::get(book, EXPOSURES, e) <= 10000000000000
+    book::get(book, EXPOSURE_AMOUNTS, e) <= 10000000000000
 }
 
 // Puts the closing day of a sound exposure among those at hand.

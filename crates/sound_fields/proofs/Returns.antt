@@ -6,9 +6,11 @@ use Prim.Native.Nat.{ℕ, _≤_, _<_}
 use lib.Dec.{eqb, leb}
 use borrow.Author.Tests.{eq-eqb, ne-eqb, le-leb, lt-leb, lt-ltb, le-ltb, not-true, not-false}
 use Rattle.calendar.specs.Target.{openDay}
-use Rattle.book.specs.Layout.{nextNumber, tolerance, kinds, givers, takers, objects, amounts, settlements, inUse, exposureGivers, exposureTakers}
+use Rattle.book.specs.Layout.{nextNumber, tolerance, requestKinds, givers, takers, basketsOrExposures, amounts, settlements, inUse, exposureGivers, exposureTakers}
 use Rattle.book.specs.State.{State}
-use Rattle.rules.specs.Sound.{between, openOrNone, soundParties, basketNamed, returnNames, soundFop, soundReturn, soundKind, soundFields}
+use Rattle.laws.specs.Search.{between}
+use Rattle.rules.specs.Requests.{openOrNone}
+use Rattle.rules.specs.ByRow.{soundParties, basketNamed, returnNames, soundFop, soundReturn, soundKind, soundFields}
 use Rattle.sound_fields.specs.Rows.{Reads, marksOf}
 use Rattle.sound_fields.specs.declared.Request as declared
 
@@ -46,7 +48,7 @@ module _ (s : State) (q : declared.Request) (r : Reads s q) where
 
   -- a FOP's own fields
   module _ {b : Bool} (bq : b ≡ basketNamed s (q .object)) where
-    named : b ≡ basketNamed s (s objects (q .row))
+    named : b ≡ basketNamed s (s basketsOrExposures (q .row))
     named = rw (← r .object) bq
 
     pub fop-basket : not b ≡ true → false ≡ soundFop s (q .row)
@@ -79,10 +81,10 @@ module _ (s : State) (q : declared.Request) (r : Reads s q) where
 
   -- by the kind
   pub by-fop : {b : Bool} → q .kind ≡ 6 → b ≡ soundFop s (q .row) → b ≡ soundKind s (q .row)
-  by-fop h e = let six : s kinds (q .row) ≡ 6 = sym (r .kind) ∙ h in rw (six, or-false) e
+  by-fop h e = let six : s requestKinds (q .row) ≡ 6 = sym (r .kind) ∙ h in rw (six, or-false) e
 
   pub by-return : {b : Bool} → q .kind ≡ 7 → b ≡ soundReturn s (q .row) → b ≡ soundKind s (q .row)
-  by-return h e = let seven : s kinds (q .row) ≡ 7 = sym (r .kind) ∙ h in rw seven e
+  by-return h e = let seven : s requestKinds (q .row) ≡ 7 = sym (r .kind) ∙ h in rw seven e
 
   pub no-kind : (q .kind ≡ 6 → ⊥) → (q .kind ≡ 7 → ⊥) → false ≡ soundKind s (q .row)
   no-kind a b = rw (← r .kind, ne-eqb (q .kind) 6 a, ne-eqb (q .kind) 7 b)

@@ -4,7 +4,7 @@ use mathlib.Core.Bool.{Bool, _&&_}
 use mathlib.Core.Path.{_≡_}
 use Prim.Native.Nat.{_<_}
 use lib.Dec.{leb}
-use Rattle.book.specs.Layout.{numbers, kinds, sides, givers, takers, objects, amounts, settlements, closings, settledAmounts, partners, pairPartials, cancels, ends}
+use Rattle.book.specs.Layout.{numbers, requestKinds, sides, givers, takers, basketsOrExposures, amounts, settlements, closings, settledAmounts, partners, pairPartials, cancels, ends}
 use Rattle.book.specs.State.{State}
 use Rattle.sound_fields.specs.declared.Request as declared
 
@@ -12,11 +12,11 @@ use Rattle.sound_fields.specs.declared.Request as declared
 pub record Reads (s : State) (q : declared.Request) : Type 0 where
   pub below : q .row < 256
   pub number : q .number ≡ s numbers (q .row)
-  pub kind : q .kind ≡ s kinds (q .row)
+  pub kind : q .kind ≡ s requestKinds (q .row)
   pub side : q .side ≡ s sides (q .row)
   pub giver : q .giver ≡ s givers (q .row)
   pub taker : q .taker ≡ s takers (q .row)
-  pub object : q .object ≡ s objects (q .row)
+  pub object : q .object ≡ s basketsOrExposures (q .row)
   pub amount : q .amount ≡ s amounts (q .row)
   pub settlement : q .settlement ≡ s settlements (q .row)
   pub closing : q .closing ≡ s closings (q .row)

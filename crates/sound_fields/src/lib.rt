@@ -4,10 +4,11 @@ ghost use Prim.Native.Nat.{_<_};
 ghost use lib.ListN.{length};
 ghost use Rattle.book.specs.Layout.{bookLength};
 ghost use Rattle.book.specs.State.{state};
-ghost use Rattle.rules.specs.Sound.{returnNames, soundFop, soundReturn, soundKind, soundFields};
+ghost use Rattle.rules.specs.ByRow.{returnNames, soundFop, soundReturn, soundKind, soundFields};
 ghost use Rattle.open_days.specs.Days.{OpenDays};
 ghost use Rattle.sound_fields.specs.Rows.{Reads, marksOf};
 use book::layout::AMOUNTS;
+use book::layout::BASKETS_OR_EXPOSURES;
 use book::layout::CANCELS;
 use book::layout::CLOSINGS;
 use book::layout::ENDS;
@@ -15,12 +16,11 @@ use book::layout::EXPOSURE_GIVERS;
 use book::layout::EXPOSURE_TAKERS;
 use book::layout::GIVERS;
 use book::layout::IN_USE;
-use book::layout::KINDS;
 use book::layout::NEXT_NUMBER;
 use book::layout::NUMBERS;
-use book::layout::OBJECTS;
 use book::layout::PAIR_PARTIALS;
 use book::layout::PARTNERS;
+use book::layout::REQUEST_KINDS;
 use book::layout::SETTLED_AMOUNTS;
 use book::layout::SETTLEMENTS;
 use book::layout::SIDES;
@@ -53,11 +53,11 @@ pub fn request_at(book: &[u8], i: usize) -> Request
     Request {
         row: i,
         number: book::get(book, NUMBERS, i),
-        kind: book::get(book, KINDS, i),
+        kind: book::get(book, REQUEST_KINDS, i),
         side: book::get(book, SIDES, i),
         giver: book::get(book, GIVERS, i),
         taker: book::get(book, TAKERS, i),
-        object: book::get(book, OBJECTS, i),
+        object: book::get(book, BASKETS_OR_EXPOSURES, i),
         amount: book::get(book, AMOUNTS, i),
         settlement: book::get(book, SETTLEMENTS, i),
         closing: book::get(book, CLOSINGS, i),

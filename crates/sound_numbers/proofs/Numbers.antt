@@ -14,7 +14,7 @@ use borrow.Author.Tests.{eq-eqb, ne-eqb}
 use Rattle.laws.specs.Search.{all}
 use Rattle.book.specs.Layout.{numbers}
 use Rattle.book.specs.State.{State}
-use Rattle.rules.specs.Sound.{differs, distinctNumber}
+use Rattle.rules.specs.ByRow.{differs, distinctNumber}
 use Rattle.facts.proofs.Facts.{all-of}
 use Rattle.sound_numbers.specs.Numbers.{Marked}
 

@@ -5,7 +5,7 @@ ghost use lib.ListN.{length};
 ghost use Rattle.laws.specs.Search.{all};
 ghost use Rattle.book.specs.Layout.{bookLength};
 ghost use Rattle.book.specs.State.{state};
-ghost use Rattle.rules.specs.Sound.{differs, distinctNumber};
+ghost use Rattle.rules.specs.ByRow.{differs, distinctNumber};
 ghost use Rattle.sound_numbers.specs.Numbers.{Marked};
 use book::layout::NUMBERS;
 

@@ -7,10 +7,10 @@ use native.Mathlib.Nat.{zero-add}
 use native.Mathlib.Omega.{arith}
 use lib.Dec.{eqb, ltb}
 use borrow.Author.Tests.{eq-eqb, ne-eqb, lt-ltb, le-ltb, not-true, not-false}
-use Rattle.book.specs.Layout.{kinds, sides, givers, settledAmounts, partners, pairPartials, ends}
+use Rattle.book.specs.Layout.{requestKinds, sides, givers, settledAmounts, partners, pairPartials, ends}
 use Rattle.book.specs.State.{State}
 use Rattle.rules.specs.Requests.{isReturn, exposureWith, exposureOfFop, partnerOf}
-use Rattle.rules.specs.Sound.{alike, marksAlike, soundPair, soundPaired}
+use Rattle.rules.specs.ByRow.{alike, marksAlike, soundPair, soundPaired}
 use Rattle.sound_fields.specs.Rows.{Reads}
 use Rattle.sound_fields.specs.declared.Request as declared
 use Rattle.sound_pairs.specs.Rest.{unpairedOf, soundRest}
@@ -54,7 +54,7 @@ module _ (s : State) (q : declared.Request) (r : Reads s q) where
         pub same-side : not v ≡ true → false ≡ soundPair s (q .row) j
         same-side h = rw (sym sides-are ∙ not-true v h, and-false, and-false)
 
-        module _ (opposite : not v ≡ false) {l : ℕ} (lq : l ≡ s kinds j) where
+        module _ (opposite : not v ≡ false) {l : ℕ} (lq : l ≡ s requestKinds j) where
           pub other-kind : (q .kind ≡ l → ⊥) → false ≡ soundPair s (q .row) j
           other-kind h = rw (← r .kind, ← lq, ne-eqb (q .kind) l h, and-false, and-false, and-false)
 
@@ -80,11 +80,11 @@ module _ (s : State) (q : declared.Request) (r : Reads s q) where
 
   -- the exposure of a FOP
   pub return-belongs : q .kind ≡ 7 → true ≡ (isReturn s (q .row) || ltb (exposureOfFop s (q .row)) 64)
-  return-belongs h = rw (eq-eqb (s kinds (q .row)) 7 (sym (r .kind) ∙ h))
+  return-belongs h = rw (eq-eqb (s requestKinds (q .row)) 7 (sym (r .kind) ∙ h))
 
   pub by-exposure : {b : Bool} → (q .kind ≡ 7 → ⊥) → b ≡ ltb (exposureWith s (q .giver) (q .taker) (q .object) (q .closing)) 64
       → b ≡ (isReturn s (q .row) || ltb (exposureOfFop s (q .row)) 64)
-  by-exposure h e = rw (ne-eqb (s kinds (q .row)) 7 (λ m. h (r .kind ∙ m)), ← r .giver, ← r .taker, ← r .object, ← r .closing) e
+  by-exposure h e = rw (ne-eqb (s requestKinds (q .row)) 7 (λ m. h (r .kind ∙ m)), ← r .giver, ← r .taker, ← r .object, ← r .closing) e
 
   -- a paired row
   module _ {b : Bool} (bq : b ≡ soundPair s (q .row) (q .partner - 1)) where

@@ -9,9 +9,9 @@ use lib.Bits.{bitOr, bitXor, or-zero-l, xor-add-and, xor-self, and-le-l, and-le-
 use lib.Dec.{eqb}
 use borrow.Author.Tests.{eq-eqb, eqb-true}
 use Rattle.laws.proofs.Least.{all-at, all-same}
-use Rattle.book.specs.Layout.{givers, takers, objects, amounts, settlements, closings}
+use Rattle.book.specs.Layout.{givers, takers, basketsOrExposures, amounts, settlements, closings}
 use Rattle.book.specs.State.{State}
-use Rattle.rules.specs.Sound.{same, alike, blank}
+use Rattle.rules.specs.ByRow.{same, alike, blank}
 use Rattle.facts.proofs.Facts.{all-of}
 use Rattle.row_tests.proofs.Empty.{agree, or-left, or-right}
 use Rattle.sound_fields.specs.Rows.{Reads}
@@ -53,7 +53,7 @@ same-bits x y = agree
     (λ p. eq-eqb x y (omega (arith, eqb-true (bitXor x y) 0 p, xor-add-and x y, and-le-l x y, and-le-r x y)))
     (λ p. rw (eqb-true x y p, xor-self))
 
-pub by-terms : (s : State) (q : declared.Request) (j : ℕ) {g t o a d c : ℕ} → Reads s q → g ≡ s givers j → t ≡ s takers j → o ≡ s objects j → a ≡ s amounts j → d ≡ s settlements j → c ≡ s closings j
+pub by-terms : (s : State) (q : declared.Request) (j : ℕ) {g t o a d c : ℕ} → Reads s q → g ≡ s givers j → t ≡ s takers j → o ≡ s basketsOrExposures j → a ≡ s amounts j → d ≡ s settlements j → c ≡ s closings j
     → eqb (bitOr (bitOr (bitOr (bitOr (bitOr (bitXor (q .giver) g) (bitXor (q .taker) t)) (bitXor (q .object) o)) (bitXor (q .amount) a)) (bitXor (q .settlement) d)) (bitXor (q .closing) c)) 0 ≡ alike s 6 givers (q .row) j
 by-terms s q j r gq tq oq aq dq cq =
     let u : State = λ f i. bitXor (s f (q .row)) (s f j) in

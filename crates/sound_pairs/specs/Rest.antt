@@ -5,7 +5,7 @@ use Prim.Native.Nat.{ℕ}
 use lib.Dec.{eqb}
 use Rattle.book.specs.State.{State}
 use Rattle.rules.specs.Requests.{isPaired}
-use Rattle.rules.specs.Sound.{soundPaired, soundUnpaired}
+use Rattle.rules.specs.ByRow.{soundPaired, soundUnpaired}
 use Rattle.sound_fields.specs.declared.Request as declared
 
 -- `soundUnpaired` of what was read

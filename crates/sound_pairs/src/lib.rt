@@ -7,17 +7,17 @@ ghost use lib.ListN.{length};
 ghost use Rattle.book.specs.Layout.{bookLength, givers};
 ghost use Rattle.book.specs.State.{state};
 ghost use Rattle.rules.specs.Requests.{isReturn, exposureOfFop};
-ghost use Rattle.rules.specs.Sound.{alike, marksAlike, soundPair, soundPaired};
+ghost use Rattle.rules.specs.ByRow.{alike, marksAlike, soundPair, soundPaired};
 ghost use Rattle.sound_fields.specs.Rows.{Reads};
 ghost use Rattle.sound_pairs.specs.Rest.{unpairedOf, soundRest};
 use book::layout::AMOUNTS;
+use book::layout::BASKETS_OR_EXPOSURES;
 use book::layout::CLOSINGS;
 use book::layout::ENDS;
 use book::layout::GIVERS;
-use book::layout::KINDS;
-use book::layout::OBJECTS;
 use book::layout::PAIR_PARTIALS;
 use book::layout::PARTNERS;
+use book::layout::REQUEST_KINDS;
 use book::layout::SETTLED_AMOUNTS;
 use book::layout::SETTLEMENTS;
 use book::layout::SIDES;
@@ -44,7 +44,7 @@ fn are_terms_alike(book: &[u8], q: Request, j: usize) -> bool
 {
     let giver = book::get(book, GIVERS, j);
     let taker = book::get(book, TAKERS, j);
-    let object = book::get(book, OBJECTS, j);
+    let object = book::get(book, BASKETS_OR_EXPOSURES, j);
     let amount = book::get(book, AMOUNTS, j);
     let settlement = book::get(book, SETTLEMENTS, j);
     let closing = book::get(book, CLOSINGS, j);
@@ -80,7 +80,7 @@ fn is_sound_pair(book: &[u8], q: Request, j: usize) -> bool
         return false;
     }
     let partner = book::get(book, PARTNERS, j);
-    let kind = book::get(book, KINDS, j);
+    let kind = book::get(book, REQUEST_KINDS, j);
     let side = book::get(book, SIDES, j);
     let terms = are_terms_alike(book, q, j);
     let marks = are_marks_alike(book, q, j);

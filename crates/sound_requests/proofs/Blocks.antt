@@ -11,10 +11,10 @@ use Rattle.laws.specs.Filled.{filled}
 use Rattle.laws.specs.Search.{all}
 use Rattle.laws.proofs.Cases.{either, clash}
 use Rattle.laws.proofs.Least.{Rest, all-at, all-hit, all-miss, all-none, all-end}
-use Rattle.book.specs.Layout.{numbers, kinds}
+use Rattle.book.specs.Layout.{numbers, requestKinds}
 use Rattle.book.specs.State.{State}
 use Rattle.rules.specs.Requests.{isUsed}
-use Rattle.rules.specs.Sound.{soundRow}
+use Rattle.rules.specs.ByRow.{soundRow}
 use Rattle.facts.proofs.Facts.{all-of, below}
 use Rattle.facts.proofs.Rows.{unused-blank, blank-sound}
 use Rattle.row_tests.specs.Bytes.{emptyRows}
@@ -24,9 +24,9 @@ use Rattle.row_tests.proofs.InRows.{in-rows}
 use Rattle.sound_requests.specs.Rows.{emptyTables}
 
 -- the fourteen tables from the kinds on have 256 rows
-pub in-requests : (n from i : ℕ) → kinds ≤ from → from + n ≤ kinds + 14 → i < 256 → InRows n from i
+pub in-requests : (n from i : ℕ) → requestKinds ≤ from → from + n ≤ requestKinds + 14 → i < 256 → InRows n from i
 unfolding filled
-in-requests n from i g h l = in-rows 256 kinds 14 refl (omega arith) n from i g h l
+in-requests n from i g h l = in-rows 256 requestKinds 14 refl (omega arith) n from i g h l
 
 -- m tests, and n after them
 all-more : (t : ℕ → Bool) (m n i : ℕ) → all t m i ≡ true → all t (m + n) i ≡ all t n (i + m)
@@ -77,7 +77,7 @@ pub sixteen-starts : (t : ℕ → Bool) (k : ℕ) → Rest t (16 * k + 16) (16 *
 sixteen-starts t k = let n : 16 * k + 16 - 16 * k ≡ 16 = omega arith in record { decides = rw n }
 
 -- sixteen rows of which none is used
-module _ (s : State) (k : ℕ) {u r : Bool} (uq : u ≡ emptyRows s numbers (16 * k) 16) (none : u ≡ true) (rq : r ≡ emptyTables s 14 kinds k) where
+module _ (s : State) (k : ℕ) {u r : Bool} (uq : u ≡ emptyRows s numbers (16 * k) 16) (none : u ≡ true) (rq : r ≡ emptyTables s 14 requestKinds k) where
   unused : (i : ℕ) → 16 * k ≤ i → i < 16 * k + 16 → isUsed s i ≡ false
   unused i a l =
       let place : 16 * k + (i - 16 * k) ≡ i = omega arith in
@@ -91,10 +91,10 @@ module _ (s : State) (k : ℕ) {u r : Bool} (uq : u ≡ emptyRows s numbers (16 
       (λ p. all-of (soundRow s) 16 (16 * k) (λ i a l.
       let place : 16 * k + (i - 16 * k) ≡ i = omega arith in
       blank-sound s i (unused i a l) (λ f g h.
-      let row = all-at (λ f. emptyRows s f (16 * k) 16) 14 kinds p f g h in
+      let row = all-at (λ f. emptyRows s f (16 * k) 16) 14 requestKinds p f g h in
       let zero : s f (16 * k + (i - 16 * k)) ≡ 0 = eqb-true (s f (16 * k + (i - 16 * k))) 0 (below (λ j. eqb (s f (16 * k + j)) 0) 16 row (i - 16 * k) (omega arith)) in
       rw place at zero)))
-      (λ p. all-of (λ f. emptyRows s f (16 * k) 16) 14 kinds (λ f g h.
+      (λ p. all-of (λ f. emptyRows s f (16 * k) 16) 14 requestKinds (λ f g h.
       all-of (λ j. eqb (s f (16 * k + j)) 0) 16 0 (λ j a l.
       let i = 16 * k + j in
       eq-eqb (s f i) 0 (unused-blank s i (all-at (soundRow s) 16 (16 * k) p i (omega arith) (omega arith)) (unused i (omega arith) (omega arith)) f g h))))

@@ -13,8 +13,8 @@ use Rattle.laws.proofs.Cases.{either}
 use Rattle.laws.proofs.Least.{all-at}
 use Rattle.book.specs.Layout.{nextNumber, numbers, settlements, closings, partners, cancels}
 use Rattle.book.specs.State.{State}
-use Rattle.rules.specs.Requests.{isUsed, isPaired, isReturn, partnerOf, exposureOfFop}
-use Rattle.rules.specs.Sound.{openOrNone, soundFields, soundPaired, soundRow}
+use Rattle.rules.specs.Requests.{isUsed, isPaired, isReturn, partnerOf, exposureOfFop, openOrNone}
+use Rattle.rules.specs.ByRow.{soundFields, soundPaired, soundRow}
 use Rattle.facts.proofs.Rows.{Kind, fop, return, Fields, Pair, Paired, used-fields, used-paired, unused-blank, paired-sound}
 use Rattle.sound_requests.specs.Rows.{Passed, Later}
 

@@ -6,13 +6,13 @@ use Prim.Native.Nat.{ℕ, _<_}
 use native.Mathlib.Omega.{arith}
 use lib.Dec.{eqb}
 use borrow.Author.Tests.{eq-eqb, ne-eqb, not-true, not-false}
-use Rattle.book.specs.Layout.{numbers, kinds}
+use Rattle.book.specs.Layout.{numbers, requestKinds}
 use Rattle.book.specs.State.{State}
-use Rattle.rules.specs.Sound.{soundFields, blank, soundRow}
+use Rattle.rules.specs.ByRow.{soundFields, blank, soundRow}
 use Rattle.sound_pairs.specs.Rest.{soundRest}
 
 module _ (s : State) (i : ℕ) where
-  pub by-blank : {n : ℕ} {b : Bool} → n ≡ s numbers i → n ≡ 0 → b ≡ blank s 14 kinds i → b ≡ soundRow s i
+  pub by-blank : {n : ℕ} {b : Bool} → n ≡ s numbers i → n ≡ 0 → b ≡ blank s 14 requestKinds i → b ≡ soundRow s i
   by-blank nq h e = rw (eq-eqb (s numbers i) 0 (sym nq ∙ h)) e
 
   module _ (used : 0 < s numbers i) {n : ℕ} (at : n ≡ i) {f : Bool} (fq : f ≡ soundFields s n) where

@@ -6,7 +6,7 @@ use Prim.Native.Nat.{ℕ, _+_, _*_, _<_}
 use Rattle.laws.specs.Search.{all}
 use Rattle.book.specs.Layout.{numbers, partners}
 use Rattle.book.specs.State.{State}
-use Rattle.rules.specs.Sound.{soundRow}
+use Rattle.rules.specs.ByRow.{soundRow}
 use Rattle.row_tests.specs.Bytes.{emptyRows}
 
 -- the rows before i are sound

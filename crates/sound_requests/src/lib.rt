@@ -4,18 +4,18 @@ ghost use mathlib.Core.Path.{_≡_};
 ghost use Prim.Native.Nat.{_*_, _<_};
 ghost use lib.ListN.{length};
 ghost use Rattle.laws.specs.Search.{all};
-ghost use Rattle.book.specs.Layout.{bookLength, numbers, kinds};
+ghost use Rattle.book.specs.Layout.{bookLength, numbers, requestKinds};
 ghost use Rattle.book.specs.State.{state};
-ghost use Rattle.rules.specs.Sound.{blank, soundRow};
+ghost use Rattle.rules.specs.ByRow.{blank, soundRow};
 ghost use Rattle.open_days.specs.Days.{OpenDays};
 ghost use Rattle.row_tests.specs.Rows.{InRows};
 ghost use Rattle.sound_requests.specs.Rows.{Later, Passed, emptyTables};
 use book::layout::CANCELS;
 use book::layout::CLOSINGS;
-use book::layout::KINDS;
 use book::layout::NEXT_NUMBER;
 use book::layout::NUMBERS;
 use book::layout::PARTNERS;
+use book::layout::REQUEST_KINDS;
 use book::layout::SETTLEMENTS;
 
 // A used row that is not the later one of a pair.
@@ -47,9 +47,9 @@ fn is_sound_later(book: &[u8], i: usize, j: usize) -> bool
 // Does a row hold nothing, in the fourteen tables from the kinds on? The loops are short enough for the compiler to unroll.
 fn is_blank_row(book: &[u8], i: usize) -> bool
     requires { ⌜ (length (now book) ≡ bookLength) × (i < 256) ⌝ }
-    ensures { λ r. ⌜ r ≡ blank (state (now (book .entry))) 14 kinds i ⌝ }
+    ensures { λ r. ⌜ r ≡ blank (state (now (book .entry))) 14 requestKinds i ⌝ }
 {
-    if !row_tests::is_blank(book, 6, KINDS, i) {
+    if !row_tests::is_blank(book, 6, REQUEST_KINDS, i) {
         return false;
     }
     row_tests::is_blank(book, 8, SETTLEMENTS, i)
@@ -73,9 +73,9 @@ fn are_tables_empty(book: &[u8], n: usize, from: usize, k: usize) -> bool
 // The same in the fourteen tables from the kinds on.
 fn are_sixteen_blank(book: &[u8], k: usize) -> bool
     requires { ⌜ (length (now book) ≡ bookLength) × (k < 16) ⌝ }
-    ensures { λ r. ⌜ r ≡ emptyTables (state (now (book .entry))) 14 kinds k ⌝ }
+    ensures { λ r. ⌜ r ≡ emptyTables (state (now (book .entry))) 14 requestKinds k ⌝ }
 {
-    if !are_tables_empty(book, 6, KINDS, k) {
+    if !are_tables_empty(book, 6, REQUEST_KINDS, k) {
         return false;
     }
     are_tables_empty(book, 8, SETTLEMENTS, k)

@@ -7,12 +7,12 @@ use Prim.Native.Nat.{ℕ, _+_, _≤_, _<_}
 use native.Mathlib.Nat.{zero-add}
 use lib.Dec.{eqb, leb}
 use borrow.Author.Tests.{eq-eqb, ne-eqb, le-leb, lt-leb, le-ltb, lt-ltb, not-true, not-false}
-use Rattle.book.specs.Layout.{today, tolerance, nextNumber, lots, prices, haircuts, quotes, modes, lists, partials, waitingModes, waitingLists, waitingPartials, maps, ages, spares}
+use Rattle.book.specs.Layout.{today, tolerance, nextNumber, lots, prices, haircuts, quoteDays, modes, lists, partials, waitingModes, waitingLists, waitingPartials, maps, greatestAges, spares}
 use Rattle.book.specs.State.{State}
-use Rattle.laws.specs.Search.{all}
+use Rattle.laws.specs.Search.{all, between}
 use Rattle.laws.proofs.Least.{all-same}
 use Rattle.calendar.specs.Target.{openDay}
-use Rattle.rules.specs.Sound.{between, soundHead, soundSecurity, soundProfile, soundParticipant, soundBasket, soundParties, basketNamed, isSpare}
+use Rattle.rules.specs.ByRow.{soundHead, soundSecurity, soundProfile, soundParticipant, soundBasket, soundParties, basketNamed, isSpare}
 use Rattle.facts.proofs.Truth.{split}
 use Rattle.row_tests.specs.Bytes.{emptyRows}
 
@@ -61,10 +61,10 @@ module _ (s : State) (b : ℕ) where
   pub by-map : {x : ℕ} → b < 16 → x ≡ s maps b → not (eqb x 0) ≡ basketNamed s b
   by-map h e = rw (lt-ltb b 16 h, e)
 
-  pub blank-basket : {x y : ℕ} → x ≡ s ages b → y ≡ s maps b → y ≡ 0 → eqb x 0 ≡ soundBasket s b
+  pub blank-basket : {x y : ℕ} → x ≡ s greatestAges b → y ≡ s maps b → y ≡ 0 → eqb x 0 ≡ soundBasket s b
   blank-basket e f z = rw (read-zero (s maps b) f z, e)
 
-  pub by-age : {x y : ℕ} → x ≡ s ages b → y ≡ s maps b → (y ≡ 0 → ⊥) → leb x 255 ≡ soundBasket s b
+  pub by-age : {x y : ℕ} → x ≡ s greatestAges b → y ≡ s maps b → (y ≡ 0 → ⊥) → leb x 255 ≡ soundBasket s b
   by-age e f n = rw (read-other (s maps b) f n, e)
 
 -- the head
@@ -136,7 +136,7 @@ module _ (s : State) (i : ℕ) {l : ℕ} (el : l ≡ s lots i) where
   pub blank-haircut : {x : ℕ} → x ≡ s haircuts i → l ≡ 0 → (x ≡ 0 → ⊥) → false ≡ soundSecurity s i
   blank-haircut e z n = rw (read-zero (s lots i) el z, read-other (s haircuts i) e n, and-false)
 
-  pub blank-security : {x y q : ℕ} → l ≡ 0 → x ≡ s prices i → x ≡ 0 → y ≡ s haircuts i → y ≡ 0 → q ≡ s quotes i → eqb q 0 ≡ soundSecurity s i
+  pub blank-security : {x y q : ℕ} → l ≡ 0 → x ≡ s prices i → x ≡ 0 → y ≡ s haircuts i → y ≡ 0 → q ≡ s quoteDays i → eqb q 0 ≡ soundSecurity s i
   blank-security z e p f h g = rw (read-zero (s lots i) el z, read-zero (s prices i) e p, read-zero (s haircuts i) f h, g)
 
   pub large-lot : (l ≡ 0 → ⊥) → 1000000 < l → false ≡ soundSecurity s i
@@ -149,15 +149,15 @@ module _ (s : State) (i : ℕ) {l : ℕ} (el : l ≡ s lots i) where
   large-haircut {x} e n h = rw (read-other (s lots i) el n, ← e, lt-leb x 9999 h, and-false, and-false)
 
   pub by-quote : {x y q : ℕ} {b r : Bool} → (l ≡ 0 → ⊥) → l ≤ 1000000 → x ≡ s prices i → b ≡ between 1 3000000 x → not b ≡ false
-      → y ≡ s haircuts i → y ≤ 9999 → q ≡ s quotes i → r ≡ openDay q → r ≡ soundSecurity s i
+      → y ≡ s haircuts i → y ≤ 9999 → q ≡ s quoteDays i → r ≡ openDay q → r ≡ soundSecurity s i
   by-quote {x} {y} {q} {b} n h e d f g k j o =
       rw (read-other (s lots i) el n, ← el, ← e, ← g, ← j, le-leb l 1000000 h, sym d ∙ not-false b f, le-leb y 9999 k) o
 
 -- the quote day of a sound security
-pub quote-open : (s : State) (i : ℕ) {l q : ℕ} → soundSecurity s i ≡ true → l ≡ s lots i → (l ≡ 0 → ⊥) → q ≡ s quotes i → openDay q ≡ true
+pub quote-open : (s : State) (i : ℕ) {l q : ℕ} → soundSecurity s i ≡ true → l ≡ s lots i → (l ≡ 0 → ⊥) → q ≡ s quoteDays i → openDay q ≡ true
 quote-open s i {l} {q} h e n f =
     let set : eqb (s lots i) 0 ≡ false = ne-eqb (s lots i) 0 (λ z. n (e ∙ z)) in
-    let t = split (leb (s lots i) 1000000 ∷ between 1 3000000 (s prices i) ∷ leb (s haircuts i) 9999 ∷ openDay (s quotes i) ∷ []) (rw set at h) in
+    let t = split (leb (s lots i) 1000000 ∷ between 1 3000000 (s prices i) ∷ leb (s haircuts i) 9999 ∷ openDay (s quoteDays i) ∷ []) (rw set at h) in
     rw f (t .1 .1 .1)
 
 -- the spare rows are the book's last bytes

@@ -3,12 +3,12 @@ ghost use mathlib.Core.Bool.{true};
 ghost use mathlib.Core.Path.{_≡_};
 ghost use Prim.Native.Nat.{_<_};
 ghost use lib.ListN.{length};
-ghost use Rattle.laws.specs.Search.{all};
+ghost use Rattle.laws.specs.Search.{all, between};
 ghost use Rattle.book.specs.Layout.{bookLength};
 ghost use Rattle.book.specs.State.{state};
-ghost use Rattle.rules.specs.Sound.{between, soundHead, soundSecurity, soundProfile, soundParticipant, soundBasket, soundParties, basketNamed, isSpare};
+ghost use Rattle.rules.specs.ByRow.{soundHead, soundSecurity, soundProfile, soundParticipant, soundBasket, soundParties, basketNamed, isSpare};
 ghost use Rattle.open_days.specs.Days.{OpenDays};
-use book::layout::AGES;
+use book::layout::GREATEST_AGES;
 use book::layout::HAIRCUTS;
 use book::layout::LISTS;
 use book::layout::LOTS;
@@ -17,7 +17,7 @@ use book::layout::MODES;
 use book::layout::NEXT_NUMBER;
 use book::layout::PARTIALS;
 use book::layout::PRICES;
-use book::layout::QUOTES;
+use book::layout::QUOTE_DAYS;
 use book::layout::SPARES;
 use book::layout::TODAY;
 use book::layout::TOLERANCE;
@@ -56,7 +56,7 @@ fn is_sound_security(book: &[u8], i: usize, days: &[u64; 16]) -> bool
     let lot = book::get(book, LOTS, i);
     let price = book::get(book, PRICES, i);
     let haircut = book::get(book, HAIRCUTS, i);
-    let quote = book::get(book, QUOTES, i);
+    let quote = book::get(book, QUOTE_DAYS, i);
     if lot == 0 {
         if price != 0 {
             return false;
@@ -83,7 +83,7 @@ fn note_quote(days: &mut [u64; 16], book: &[u8], i: usize)
     requires { ⌜ (length (now book) ≡ bookLength) × (i < 64) × OpenDays (now days) × (soundSecurity (state (now book)) i ≡ true) ⌝ }
     ensures { λ _. ⌜ OpenDays (now (days .exit)) ⌝ }
 {
-    let quote = book::get(book, QUOTES, i);
+    let quote = book::get(book, QUOTE_DAYS, i);
     if book::get(book, LOTS, i) != 0 {
         open_days::note_open(days, quote);
     }
@@ -164,7 +164,7 @@ fn is_sound_basket(book: &[u8], b: usize) -> bool
     requires { ⌜ (length (now book) ≡ bookLength) × (b < 16) ⌝ }
     ensures { λ r. ⌜ r ≡ soundBasket (state (now (book .entry))) b ⌝ }
 {
-    let age = book::get(book, AGES, b);
+    let age = book::get(book, GREATEST_AGES, b);
     if book::get(book, MAPS, b) == 0 {
         return age == 0;
     }

@@ -16,9 +16,10 @@ use Rattle.laws.specs.Search.{all}
 use Rattle.laws.specs.Sum.{sum}
 use Rattle.laws.proofs.Cases.{either, clash, and-left, and-right}
 use Rattle.laws.proofs.Sum.{sum-next, sum-mono}
-use Rattle.book.specs.Layout.{lots, inUse, exposureGivers, exposures, accounts, positions}
+use Rattle.book.specs.Layout.{lots, inUse, exposureGivers, exposureAmounts, accounts, positions}
 use Rattle.book.specs.State.{State, Fits}
-use Rattle.rules.specs.Sound.{positionFrom, holding, soundExposure, soundPosition, soundPositions, soundHolding, soundHoldings}
+use Rattle.rules.specs.Stock.{positionFrom, holding}
+use Rattle.rules.specs.ByRow.{soundExposure, soundPosition, soundPositions, soundHolding, soundHoldings}
 use Rattle.facts.proofs.Facts.{all-of, below}
 use Rattle.facts.proofs.Rows.{used-exposure, no-exposure, used-or-not}
 use Rattle.row_tests.specs.Bytes.{emptyRows}
@@ -143,7 +144,7 @@ module _ (s : State) (p e i : ℕ) {held : List ℕ} (a : Adding s p e i held) w
   module _ {n : ℕ} (l : i < 64) (q : n ≡ s positions (64 * e + i)) (z : n ≡ 0 → ⊥) {b : Bool} (bq : b ≡ inLots s i n) where
     lots-are : soundPosition s e i ≡ b
     lots-are =
-        rw (ne-eqb (s positions (64 * e + i)) 0 (λ m. z (q ∙ m)), eq-eqb (s inUse e) 1 (a .own .used), ne-eqb (s exposures e) 0 (a .own .amount), ← q) (sym bq)
+        rw (ne-eqb (s positions (64 * e + i)) 0 (λ m. z (q ∙ m)), eq-eqb (s inUse e) 1 (a .own .used), ne-eqb (s exposureAmounts e) 0 (a .own .amount), ← q) (sym bq)
 
     pub nominal-not-whole : {B : Type 0} → not b ≡ true → Judged s false B
     nominal-not-whole f = refused s (λ h. clash (each-position s h e i (a .own .below) l) (lots-are ∙ not-true b f))
@@ -218,9 +219,9 @@ adding-ends s p e n {held} h a =
     }
 
 -- an exposure of the amount 0 holds nothing
-module _ (s : State) (e : ℕ) {held : List ℕ} (l : e < 64) (h : Held s e held) {x : ℕ} (xq : x ≡ s exposures e) (z : x ≡ 0) {r : Bool} (rq : r ≡ emptyRows s positions (64 * e) 64) where
+module _ (s : State) (e : ℕ) {held : List ℕ} (l : e < 64) (h : Held s e held) {x : ℕ} (xq : x ≡ s exposureAmounts e) (z : x ≡ 0) {r : Bool} (rq : r ≡ emptyRows s positions (64 * e) 64) where
   empty-sound : (i : ℕ) → eqb (s positions (64 * e + i)) 0 ≡ soundPosition s e i
-  empty-sound i = rw (eq-eqb (s exposures e) 0 (sym xq ∙ z), and-false, or-false)
+  empty-sound i = rw (eq-eqb (s exposureAmounts e) 0 (sym xq ∙ z), and-false, or-false)
 
   pub no-stock : Judged s r (Held s (e + 1) held)
   no-stock =
@@ -243,7 +244,7 @@ module _ (s : State) (e : ℕ) {held : List ℕ} (l : e < 64) (h : Held s e held
       add-none false = add-zero _
 
 -- a sound exposure whose amount is not 0 is used, and its giver is one of the participants
-pub stocking : (s : State) (e : ℕ) {x g : ℕ} → e < 64 → soundExposure s e ≡ true → x ≡ s exposures e → (x ≡ 0 → ⊥) → g ≡ s exposureGivers e → Stocking s g e
+pub stocking : (s : State) (e : ℕ) {x g : ℕ} → e < 64 → soundExposure s e ≡ true → x ≡ s exposureAmounts e → (x ≡ 0 → ⊥) → g ≡ s exposureGivers e → Stocking s g e
 stocking s e {x} {g} l h xq n gq =
     ⊎-elim
     (λ u. absurd (n (xq ∙ no-exposure s e h u .amount)))

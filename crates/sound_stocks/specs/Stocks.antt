@@ -8,9 +8,10 @@ use lib.Dec.{eqb, leb}
 use lib.ListN.{length, getD}
 use Rattle.laws.specs.Search.{all}
 use Rattle.laws.specs.Sum.{sum}
-use Rattle.book.specs.Layout.{lots, inUse, exposureGivers, exposures, accounts}
+use Rattle.book.specs.Layout.{lots, inUse, exposureGivers, exposureAmounts, accounts}
 use Rattle.book.specs.State.{State}
-use Rattle.rules.specs.Sound.{positionFrom, soundPosition, soundPositions, soundHoldings}
+use Rattle.rules.specs.Stock.{positionFrom}
+use Rattle.rules.specs.ByRow.{soundPosition, soundPositions, soundHoldings}
 
 -- an account by itself is within the limit
 abbrev pub smallAccount : State → ℕ → ℕ → Bool
@@ -33,7 +34,7 @@ pub record Stocking (s : State) (p e : ℕ) : Type 0 where
   pub below : e < 64
   pub used : s inUse e ≡ 1
   pub giver : s exposureGivers e ≡ p
-  pub amount : s exposures e ≡ 0 → ⊥
+  pub amount : s exposureAmounts e ≡ 0 → ⊥
 
 -- what each participant has of each security in the exposures below n stands at 64 p + i; their positions are in whole lots, and
 -- nobody has more than the limit so far

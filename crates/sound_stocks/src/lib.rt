@@ -7,11 +7,11 @@ ghost use lib.ListN.{length};
 ghost use Rattle.laws.specs.Search.{all};
 ghost use Rattle.book.specs.Layout.{bookLength};
 ghost use Rattle.book.specs.State.{state};
-ghost use Rattle.rules.specs.Sound.{soundExposure};
+ghost use Rattle.rules.specs.ByRow.{soundExposure};
 ghost use Rattle.sound_stocks.specs.Stocks.{smallAccount, smallAccounts, inLots, soundStocks, Stocking, Held, Adding, Judged};
 use book::layout::ACCOUNTS;
+use book::layout::EXPOSURE_AMOUNTS;
 use book::layout::EXPOSURE_GIVERS;
-use book::layout::EXPOSURES;
 use book::layout::LOTS;
 use book::layout::POSITIONS;
 
@@ -132,7 +132,7 @@ fn is_sound_stock(held: &mut [u32; 2048], book: &[u8], e: usize) -> bool
     requires { ⌜ (length (now book) ≡ bookLength) × (e < 64) × (soundExposure (state (now book)) e ≡ true) × Held (state (now book)) e (now held) ⌝ }
     ensures { λ r. ⌜ Judged (state (now (book .entry))) r (Held (state (now (book .entry))) (e + 1) (now (held .exit))) ⌝ }
 {
-    let amount = book::get(book, EXPOSURES, e);
+    let amount = book::get(book, EXPOSURE_AMOUNTS, e);
     if amount == 0 {
         return row_tests::are_rows_empty(book, POSITIONS, 64 * e, 64);
     }

@@ -3,7 +3,8 @@ ghost use mathlib.Core.Path.{_≡_};
 ghost use lib.ListN.{length};
 ghost use Rattle.book.specs.Layout.{bookLength};
 ghost use Rattle.book.specs.State.{state};
-ghost use Rattle.rules.specs.Sound.{soundSetUp, soundRequests, soundExposures, sound};
+ghost use Rattle.rules.specs.Sound.{sound};
+ghost use Rattle.rules.specs.ByRow.{soundSetUp, soundRequests, soundExposures};
 
 // Is what is set up sound?
 fn is_set_up_sound(book: &[u8]) -> bool

@@ -19,10 +19,10 @@ use Rattle.picking.proofs.Picks.{picked-eligible-but}
 use Rattle.securities.specs.Position.{worth, nominalsOf, Within}
 use Rattle.securities.specs.Security.{AllInBounds}
 use Rattle.securities.proofs.Positions.{sum-worth-le}
-use Rattle.book.specs.Layout.{today, tolerance, exposureGivers, exposures, accounts}
+use Rattle.book.specs.Layout.{today, tolerance, exposureGivers, exposureAmounts, accounts}
 use Rattle.book.specs.State.{State, state, rowAt, columnsOf}
 use Rattle.rules.specs.Marking.{recalled, substitutes, substituted, recallAccepted}
-use Rattle.rules.specs.Outcome.{field}
+use Rattle.rules.specs.Fields.{field}
 use Rattle.rules.specs.Stock.{basketOf, positionOf, valueOf}
 use Rattle.bonds.specs.Moves.{SoundBook}
 use Rattle.bonds.proofs.Rows.{good-of}
@@ -69,7 +69,7 @@ module _ {book fields : List ℕ} (k : Recalling book fields) where
 
   -- what the code finds is what the definition gives
   pub substitutes-found : {columns account left : List ℕ} {b : Basket} {y : Eligibility} {day v x n : ℕ} {o : Outcome} → columns ≡ columnsOf (state book) → left ≡ positionLeft (state book) fields
-      → v ≡ worth columns (nominalsOf left) → x ≡ state book exposures (field fields 1) → n ≡ x - v → account ≡ accountAfter (state book) fields → b ≡ basketOf (state book) (field fields 1)
+      → v ≡ worth columns (nominalsOf left) → x ≡ state book exposureAmounts (field fields 1) → n ≡ x - v → account ≡ accountAfter (state book) fields → b ≡ basketOf (state book) (field fields 1)
       → day ≡ state book today 0 → EligibilityFor b day columns y → o ≡ picked columns account (butNot (field fields 2) (eligibleBy y columns)) n → o ≡ substitutes (state book) fields
   substitutes-found {columns} {account} {n = n} c l w a m p b d f q =
       rw (m, a, w, l, p, b, d, c) at (q ∙ picked-eligible-but columns account n f (field fields 2))
@@ -108,12 +108,12 @@ pub sum-small : (l by : List ℕ) → Within (nominalsOf (added l by)) → (i : 
 sum-small l by w i h = rw (filled-at (λ i. getD l i 0 + getD by i 0) 64 64 i (le-refl 64) h) at (w .within i h)
 
 -- "the new value plus tolerance exceeds the exposure, or the new value is no lower than before"
-module _ (s : State) (r : List ℕ) {after x t : ℕ} (v : after ≡ valueOf (substituted s r) (field r 1)) (a : x ≡ s exposures (field r 1)) (u : t ≡ s tolerance 0) where
+module _ (s : State) (r : List ℕ) {after x t : ℕ} (v : after ≡ valueOf (substituted s r) (field r 1)) (a : x ≡ s exposureAmounts (field r 1)) (u : t ≡ s tolerance 0) where
   pub accepted-above : x < after + t → true ≡ recallAccepted s r
   unfolding recallAccepted
-  accepted-above l = rw (lt-ltb (s exposures (field r 1)) (valueOf (substituted s r) (field r 1) + s tolerance 0) (rw (v, a, u) at l))
+  accepted-above l = rw (lt-ltb (s exposureAmounts (field r 1)) (valueOf (substituted s r) (field r 1) + s tolerance 0) (rw (v, a, u) at l))
 
   pub accepted-else : {columns row : List ℕ} {before : ℕ} → after + t ≤ x → columns ≡ columnsOf s → row ≡ positionOf s (field r 1) → before ≡ worth columns (nominalsOf row)
       → leb before after ≡ recallAccepted s r
   unfolding recallAccepted
-  accepted-else l c p w = rw (le-ltb (s exposures (field r 1)) (valueOf (substituted s r) (field r 1) + s tolerance 0) (rw (v, a, u) at l), v, w, c, p)
+  accepted-else l c p w = rw (le-ltb (s exposureAmounts (field r 1)) (valueOf (substituted s r) (field r 1) + s tolerance 0) (rw (v, a, u) at l), v, w, c, p)

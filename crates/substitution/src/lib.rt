@@ -3,14 +3,14 @@ ghost use mathlib.Core.Path.{_≡_};
 ghost use Prim.Native.Nat.{_≤_};
 ghost use Rattle.book.specs.State.{state, columnsOf};
 ghost use Rattle.rules.specs.Marking.{substitutes, substituted, recallAccepted};
-ghost use Rattle.rules.specs.Outcome.{field};
+ghost use Rattle.rules.specs.Fields.{field};
 ghost use Rattle.rules.specs.Stock.{valueOf};
 ghost use Rattle.securities.specs.Position.{Within, nominalsOf};
 ghost use Rattle.marking_laws.specs.Recalled.{added, accountAfter, positionLeft};
 ghost use Rattle.substitution.specs.Recalling.{Recalling};
 use book::layout::ACCOUNTS;
+use book::layout::EXPOSURE_AMOUNTS;
 use book::layout::EXPOSURE_GIVERS;
-use book::layout::EXPOSURES;
 use book::layout::POSITIONS;
 use book::layout::TODAY;
 use book::layout::TOLERANCE;
@@ -47,7 +47,7 @@ pub fn substitutes(book: &[u8], columns: &[u64; 256], fields: &[u64; 8]) -> Outc
     let e = fields[1] as usize;
     let left = position_left(book, fields);
     let value = securities::worth_of(&left, columns);
-    let missing = bonds::missing_from(book::get(book, EXPOSURES, e), value);
+    let missing = bonds::missing_from(book::get(book, EXPOSURE_AMOUNTS, e), value);
     let account = account_after(book, fields);
     let basket = eligibility::basket_of(book, e);
     let today = book::get(book, TODAY, 0);
@@ -89,7 +89,7 @@ pub fn is_accepted(book: &[u8], fields: &[u64; 8]) -> bool
     let columns = book::columns(book);
     let after = value_after(book, &columns, fields);
     let e = fields[1] as usize;
-    if book::get(book, EXPOSURES, e) < after + book::get(book, TOLERANCE, 0) {
+    if book::get(book, EXPOSURE_AMOUNTS, e) < after + book::get(book, TOLERANCE, 0) {
         return true;
     }
     let position = book::row_at(book, POSITIONS, 64 * e);

@@ -5,7 +5,7 @@ use mathlib.Core.Bool.{Bool, true, false, not, and-false}
 use Prim.Native.Nat.{ℕ, _≤_, _<_}
 use lib.Dec.{leb}
 use borrow.Author.Tests.{le-leb, lt-leb, not-true, not-false}
-use Rattle.answers.specs.declared.Answer.{Answer}
+use Rattle.answers.specs.declared.CodedValue.{CodedValue}
 use Rattle.answers.specs.Answers.{accepted, refused, outOfRange}
 use Rattle.valuation.specs.declared.Pricing.{Pricing}
 use Rattle.valuation.specs.Value.{value, legalPricing, valued}
@@ -20,7 +20,7 @@ module _ (t : Pricing) where
   pub by-haircut : 1 ≤ t .price → t .price ≤ 3000000 → leb (t .haircut) 9999 ≡ legalPricing t
   by-haircut h k = rw (le-leb 1 (t .price) h, le-leb (t .price) 3000000 k)
 
-  module _ (n : ℕ) {r : Answer} where
+  module _ (n : ℕ) {r : CodedValue} where
     pub large-nominal : 500000000 < n → r ≡ refused outOfRange → r ≡ valued n t
     unfolding valued
     large-nominal h e = rw (lt-leb n 500000000 h) e

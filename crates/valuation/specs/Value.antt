@@ -4,7 +4,7 @@ use mathlib.Core.Bool.{Bool, _&&_}
 use Prim.Native.Nat.{ℕ, _*_, _-_, _/_, _≤_}
 use lib.Dec.{leb}
 use Rattle.laws.specs.Search.{largest}
-use Rattle.answers.specs.declared.Answer.{Answer}
+use Rattle.answers.specs.declared.CodedValue.{CodedValue}
 use Rattle.answers.specs.Answers.{acceptedIf, outOfRange}
 use Rattle.valuation.specs.declared.Pricing.{Pricing}
 
@@ -30,5 +30,5 @@ abbrev pub legalNominal : ℕ → Bool
 legalNominal n = leb n 500000000
 
 -- the stand-alone valuation: the value, or 4 for a number out of its range
-unfoldable pub valued : ℕ → Pricing → Answer
+unfoldable pub valued : ℕ → Pricing → CodedValue
 valued n t = acceptedIf (legalNominal n && legalPricing t) outOfRange (value t n)

@@ -2,7 +2,7 @@
 ghost use mathlib.Core.Path.{_≡_};
 ghost use Prim.Native.Nat.{_≤_};
 ghost use Rattle.valuation.specs.Value.{value, Bounded, nominalWithin, legalPricing, valued};
-use answers::Answer;
+use answers::CodedValue;
 use answers::OUT_OF_RANGE;
 
 // What the value of a nominal depends on: the price (1,000,000 is par) and the haircut in hundredths of a percent.
@@ -46,7 +46,7 @@ pub fn is_legal(pricing: Pricing) -> bool
 
 // The value in cents, for any numbers: code 4 where one is out of its range.
 #[no_mangle]
-pub extern "C" fn valuation_value(nominal: u64, price: u64, haircut: u64) -> Answer
+pub extern "C" fn valuation_value(nominal: u64, price: u64, haircut: u64) -> CodedValue
     ensures { λ r. ⌜ r ≡ valued nominal (record { price = price; haircut = haircut }) ⌝ }
 {
     let pricing = Pricing { price, haircut };

@@ -6,7 +6,7 @@ use native.Mathlib.Omega.{arith}
 use Rattle.laws.specs.Sum.{sum}
 use Rattle.laws.proofs.Sum.{sum-next}
 use Rattle.book.specs.State.{state}
-use Rattle.rules.specs.Sound.{holding, positionFrom}
+use Rattle.rules.specs.Stock.{holding, positionFrom}
 use Rattle.accounts.proofs.Ranges.{account-small}
 use borrow.Author.Needs.{needs}
 use Rattle.accounts.proofs.holding_of.Statement.{statement}

@@ -6,7 +6,7 @@ use native.Mathlib.Omega.{arith}
 use lib.ListN.{getD}
 use Rattle.laws.specs.Filled.{filled}
 use Rattle.laws.proofs.Filled.{filled-first, filled-next}
-use Rattle.book.specs.Layout.{ages}
+use Rattle.book.specs.Layout.{greatestAges}
 use Rattle.book.specs.State.{state}
 use Rattle.eligibility.proofs.Fresh.{baskets-fresh}
 use borrow.Author.Needs.{needs}
@@ -14,7 +14,7 @@ use Rattle.eligibility.proofs.fresh_since.Statement.{statement}
 use Rattle.eligibility.proofs.fresh_since.Tie as tie
 
 abbrev Inv-loop : tie.InvT-loop
-Inv-loop book columns most days since₀ b₀ since b = (b ≤ 16) × (since ≡ filled (λ j. getD days (state book ages j) 0) 16 b)
+Inv-loop book columns most days since₀ b₀ since b = (b ≤ 16) × (since ≡ filled (λ j. getD days (state book greatestAges j) 0) 16 b)
 
 abbrev μ-loop : tie.MeasureT-loop
 μ-loop book columns most days since₀ b₀ since b = 16 - b

@@ -6,7 +6,7 @@ use native.Mathlib.Omega.{arith}
 use Rattle.laws.specs.Search.{all}
 use Rattle.laws.proofs.Least.{Rest, loop-fails, loop-passes, loop-ends}
 use Rattle.book.specs.State.{state}
-use Rattle.rules.specs.Sound.{distinctKey}
+use Rattle.rules.specs.ByRow.{distinctKey}
 use Rattle.sound_exposures.specs.Keys.{KeysMarked}
 use Rattle.sound_exposures.proofs.Keys.{keys-marked-none}
 use borrow.Author.Needs.{needs}

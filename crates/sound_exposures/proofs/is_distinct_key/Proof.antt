@@ -6,7 +6,7 @@ use native.Mathlib.Omega.{arith}
 use Rattle.laws.specs.Search.{all}
 use Rattle.laws.proofs.Least.{Rest, loop-fails, loop-passes, loop-ends}
 use Rattle.book.specs.State.{state}
-use Rattle.rules.specs.Sound.{otherKey, distinctKey}
+use Rattle.rules.specs.ByRow.{otherKey, distinctKey}
 use Rattle.sound_exposures.proofs.Returns.{no-key, keys-of}
 use borrow.Author.Needs.{needs}
 use Rattle.sound_exposures.proofs.is_distinct_key.Statement.{statement}

@@ -6,7 +6,7 @@ use native.Mathlib.Omega.{arith}
 use Rattle.laws.specs.Search.{all}
 use Rattle.laws.proofs.Least.{Rest, loop-fails, loop-passes, loop-ends}
 use Rattle.book.specs.State.{state}
-use Rattle.rules.specs.Sound.{distinctNumber}
+use Rattle.rules.specs.ByRow.{distinctNumber}
 use Rattle.sound_numbers.specs.Numbers.{Marked}
 use Rattle.sound_numbers.proofs.Numbers.{marked-none}
 use borrow.Author.Needs.{needs}

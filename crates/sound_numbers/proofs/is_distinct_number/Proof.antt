@@ -4,7 +4,7 @@ use Prim.Native.Nat.{ℕ, _-_, _≤_}
 use native.Mathlib.Omega.{arith}
 use Rattle.laws.proofs.Least.{Rest, loop-fails, loop-passes, loop-ends}
 use Rattle.book.specs.State.{state}
-use Rattle.rules.specs.Sound.{differs, distinctNumber}
+use Rattle.rules.specs.ByRow.{differs, distinctNumber}
 use Rattle.sound_numbers.proofs.Numbers.{no-number, numbers-of}
 use borrow.Author.Needs.{needs}
 use Rattle.sound_numbers.proofs.is_distinct_number.Statement.{statement}

@@ -1,14 +1,14 @@
 -- `sound_requests::are_sixteen_blank` meets its contract.
 -- Assumes nothing.
 use native.Mathlib.Omega.{arith}
-use Rattle.book.specs.Layout.{kinds, settlements}
+use Rattle.book.specs.Layout.{requestKinds, settlements}
 use Rattle.sound_requests.proofs.Blocks.{in-requests, six-fail, by-eight}
 use borrow.Author.Needs.{needs}
 use Rattle.sound_requests.proofs.are_sixteen_blank.Statement.{statement}
 use Rattle.sound_requests.proofs.are_sixteen_blank.Tie as tie
 
 are-tables-empty-requires : tie.Need-are-tables-empty-requires
-are-tables-empty-requires c κs = (search needs, search needs, in-requests 6 kinds 255 (omega arith) (omega arith) (omega arith))
+are-tables-empty-requires c κs = (search needs, search needs, in-requests 6 requestKinds 255 (omega arith) (omega arith) (omega arith))
 
 returns : tie.Need-returns
 returns c = six-fail _ (c .before .are-tables-empty .ensures) (c .if1 .taken)

@@ -2,13 +2,13 @@
 -- Assumes nothing.
 use native.Mathlib.Omega.{arith}
 use Rattle.sound_requests.proofs.Blocks.{in-requests, six-fail, by-eight}
-use Rattle.book.specs.Layout.{kinds, settlements}
+use Rattle.book.specs.Layout.{requestKinds, settlements}
 use borrow.Author.Needs.{needs}
 use Rattle.sound_requests.proofs.is_blank_row.Statement.{statement}
 use Rattle.sound_requests.proofs.is_blank_row.Tie as tie
 
 is-blank-requires : tie.Need-is-blank-requires
-is-blank-requires c κs = (search needs, in-requests 6 kinds _ (omega arith) (omega arith) (search needs))
+is-blank-requires c κs = (search needs, in-requests 6 requestKinds _ (omega arith) (omega arith) (search needs))
 
 returns : tie.Need-returns
 returns c = six-fail _ (c .before .is-blank .ensures) (c .if1 .taken)

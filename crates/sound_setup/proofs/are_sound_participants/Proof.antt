@@ -6,7 +6,7 @@ use native.Mathlib.Omega.{arith}
 use Rattle.laws.specs.Search.{all}
 use Rattle.laws.proofs.Least.{Rest, loop-fails, loop-passes, loop-ends}
 use Rattle.book.specs.State.{state}
-use Rattle.rules.specs.Sound.{soundParticipant}
+use Rattle.rules.specs.ByRow.{soundParticipant}
 use borrow.Author.Needs.{needs}
 use Rattle.sound_setup.proofs.are_sound_participants.Statement.{statement}
 use Rattle.sound_setup.proofs.are_sound_participants.Tie as tie

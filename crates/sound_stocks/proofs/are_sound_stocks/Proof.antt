@@ -6,7 +6,7 @@ use mathlib.Core.Path.{_≡_}
 use native.Mathlib.Omega.{arith}
 use Rattle.laws.specs.Search.{all}
 use Rattle.book.specs.State.{state}
-use Rattle.rules.specs.Sound.{soundExposure}
+use Rattle.rules.specs.ByRow.{soundExposure}
 use Rattle.facts.proofs.Facts.{below}
 use Rattle.sound_stocks.specs.Stocks.{Held}
 use Rattle.sound_stocks.proofs.Stocks.{accounts-fail, held-starts, held-ends, judged-ends, judged-passes}
