@@ -27,7 +27,7 @@ use Rattle.request_laws.proofs.Cancelling.{keeps-cancel}
 use Rattle.settlement_laws.proofs.Keeping.{keeps-settlement}
 use Rattle.marking_laws.proofs.Marking.{keeps-mark, keeps-recall}
 use Rattle.day_laws.proofs.NextDay.{keeps-next-day}
-use Rattle.ledger.proofs.Paper.{InOrder, on-paper, noted-steps}
+use Rattle.ledger.proofs.Paper.{InOrder, on-paper}
 use Rattle.records.proofs.Readings.{reading-taken}
 use Rattle.ledger.proofs.Steps.{StepsKeep, opening-in-order, taken-in-order}
 
@@ -47,11 +47,7 @@ module _ (s : State) (bytes : List ℕ) where
 -- the state that a record leaves on paper is its step's
 pub taken-steps : (p : Paper) (k : ℕ) (r : List ℕ) → takenDown p k r .steps ≡ stepOf (onPaper p) k r .state
 unfolding takenDown
-taken-steps p k r =
-    ⊎-elim
-    (λ z. rw z)
-    (λ z. rw z (noted-steps _ (stepOf (onPaper p) k r .events)))
-    (either (eqb k 0))
+taken-steps p k r = ⊎-elim (λ z. rw z) (λ z. rw z) (either (eqb k 0))
 
 -- a call on the bytes of a sound state: neither 1 nor 2 comes, and the step is the state's
 module _ (s : State) (good : Good s) where
@@ -131,11 +127,7 @@ agrees b p e o =
     (record {
       bonds = λ q i h l. omega (arith, o .bonds q i h l);
       withdrawn-within = λ q i h l. omega (arith, o .bonds q i h l);
-      rows = λ e l. refl;
-      givers = λ e l. refl;
-      takers = λ e l. refl;
-      baskets = λ e l. refl;
-      closings = λ e l. refl;
+      keys = λ e l. refl;
       amounts = λ e l. omega (arith, o .amounts e);
       not-below = λ e l. omega (arith, o .amounts e);
     })

@@ -28,7 +28,7 @@ use Rattle.ledger.proofs.Steps.{opening-in-order, taken-in-order}
 
 -- the paper of a book: what each participant holds as deposited, what each exposure is as settled
 abbrev paperOf : State → Paper
-paperOf s = record { steps = s; deposits = holding s; withdrawals = λ q i. 0; settledIn = s exposureAmounts; returns = λ e. 0; closes = λ e. 0 }
+paperOf s = record { steps = s; deposits = holding s; withdrawals = λ q i. 0; sums = record { settledIn = s exposureAmounts; returns = λ e. 0; closes = λ e. 0 } }
 
 in-order : (s : State) → Good s → InOrder (paperOf s)
 in-order s g = record { good = g; amounts = λ e. omega arith; bonds = λ q i h l. omega arith }
