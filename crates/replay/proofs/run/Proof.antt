@@ -8,10 +8,6 @@ use Rattle.replay.proofs.Stream.{Walk, length-part, walk-begins, walk-g
 use borrow.Author.Needs.{needs}
 use Rattle.replay.proofs.run.Statement.{statement}
 use Rattle.replay.proofs.run.Tie as tie
-use Rattle.replay.proofs.run.Reads as reads
-use Rattle.replay.proofs.run.Lts as lts
-use Rattle.replay.proofs.lesser.Reads as lesser-reads
-use Rattle.replay.proofs.run_one.Reads as run-one-reads
 
 abbrev Inv-loop : tie.InvT-loop
 Inv-loop book₀ calls bytes codes₀ n k₀ at₀ book codes k at = Walk (length codes₀) calls bytes book₀ book codes₀ codes k at
