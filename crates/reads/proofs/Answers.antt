@@ -41,44 +41,27 @@ module _ (b : List ℕ) (q : Read) where
   unfolding readAnswer
   by-code h = ap (answerBy b q) (sym h)
 
-  refused : {c : ℕ} → readCode b q ≡ c → (c ≡ 0 → ⊥) → c ∷ replicate (length (readValues (state b) q)) 0 ≡ readAnswer b q
-  refused {c} h n = rw (ne-eqb c 0 n) at (by-code h)
+  -- refused: as many zeros as values
+  refused : {c : ℕ} {zeros : List ℕ} → readCode b q ≡ c → (c ≡ 0 → ⊥) → zeros ≡ replicate (length (readValues (state b) q)) 0 → c ∷ zeros ≡ readAnswer b q
+  refused {c} h n k = rw k (rw (ne-eqb c 0 n) at (by-code h))
 
-  module _ {x : ℕ} (e : x ≡ bookCode b false) where
-    damaged : (x ≡ 0 → ⊥) → x ∷ replicate (length (readValues (state b) q)) 0 ≡ readAnswer b q
+  pub damaged : {x : ℕ} {zeros : List ℕ} → x ≡ bookCode b false → (x ≡ 0 → ⊥) → zeros ≡ replicate (length (readValues (state b) q)) 0 → x ∷ zeros ≡ readAnswer b q
+  unfolding readCode
+  damaged e n k = refused (damaged-code b false (lowest (readRules (state b) q)) e n) n k
+
+  module _ {x : ℕ} (e : x ≡ bookCode b false) (z : x ≡ 0) {c : ℕ} (g : c ≡ lowest (readRules (state b) q)) where
+    code-is : readCode b q ≡ c
     unfolding readCode
-    damaged n = refused (damaged-code b false (lowest (readRules (state b) q)) e n) n
+    code-is = passed-code b false (lowest (readRules (state b) q)) (passes b false e z) ∙ sym g
 
-    module _ (z : x ≡ 0) {c : ℕ} (g : c ≡ lowest (readRules (state b) q)) where
-      code-is : readCode b q ≡ c
-      unfolding readCode
-      code-is = passed-code b false (lowest (readRules (state b) q)) (passes b false e z) ∙ sym g
+    by-rules : answerBy b q c ≡ readAnswer b q
+    by-rules = by-code code-is
 
-      by-rules : answerBy b q c ≡ readAnswer b q
-      by-rules = by-code code-is
+    pub read-refused : {zeros : List ℕ} → (c ≡ 0 → ⊥) → zeros ≡ replicate (length (readValues (state b) q)) 0 → c ∷ zeros ≡ readAnswer b q
+    read-refused n k = refused code-is n k
 
-      read-refused : (c ≡ 0 → ⊥) → c ∷ replicate (length (readValues (state b) q)) 0 ≡ readAnswer b q
-      read-refused n = refused code-is n
-
-      read-accepted : c ≡ 0 → 0 ∷ readValues (state b) q ≡ readAnswer b q
-      read-accepted o = rw o at by-rules
-
--- a damaged book
-module _ (b : List ℕ) {x : ℕ} (e : x ≡ bookCode b false) (n : x ≡ 0 → ⊥) where
-  pub account-damaged : (p i : ℕ) → x ∷ 0 ∷ [] ≡ readAnswer b (account p i)
-  account-damaged p i = damaged b (account p i) e n
-
-  pub position-damaged : (p i : ℕ) → x ∷ 0 ∷ [] ≡ readAnswer b (position p i)
-  position-damaged p i = damaged b (position p i) e n
-
-  pub exposure-damaged : (y : ℕ) → x ∷ 0 ∷ 0 ∷ 0 ∷ 0 ∷ 0 ∷ [] ≡ readAnswer b (exposure y)
-  exposure-damaged y = damaged b (exposure y) e n
-
-  pub basket-damaged : (y : ℕ) → x ∷ 0 ∷ 0 ∷ 0 ∷ 0 ∷ [] ≡ readAnswer b (basket y)
-  basket-damaged y = damaged b (basket y) e n
-
-  pub request-damaged : (y : ℕ) → x ∷ 0 ∷ 0 ∷ 0 ∷ 0 ∷ 0 ∷ 0 ∷ 0 ∷ 0 ∷ 0 ∷ 0 ∷ 0 ∷ 0 ∷ 0 ∷ 0 ∷ [] ≡ readAnswer b (request y)
-  request-damaged y = damaged b (request y) e n
+    read-accepted : c ≡ 0 → 0 ∷ readValues (state b) q ≡ readAnswer b q
+    read-accepted o = rw o at by-rules
 
 -- the rules of a nominal by the code of its row
 by-row : (a u t v : Bool) {c : ℕ} → c ≡ lowest (rule a 4 ∷ rule (not u) 5 ∷ []) → lowest (rule (eqb c 4 || t) 4 ∷ rule (not (eqb c 0 && v)) 5 ∷ []) ≡ lowest (rule (a || t) 4 ∷ rule (not (u && v)) 5 ∷ [])
@@ -100,16 +83,10 @@ module _ (b : List ℕ) {x : ℕ} (e : x ≡ bookCode b false) (z : x ≡ 0) {c 
   pub position-answer : (y i : ℕ) {v : List ℕ} → c ≡ lowest (rowRules inUse y (isInUse (state b) y)) → v ≡ nominalAnswer (state b) c positions y i → v ≡ readAnswer b (position y i)
   position-answer y i = nominal-answer (position y i) positions inUse y i (isInUse (state b) y) refl refl
 
-  pub exposure-refused : (y : ℕ) → c ≡ lowest (readRules (state b) (exposure y)) → (c ≡ 0 → ⊥) → c ∷ 0 ∷ 0 ∷ 0 ∷ 0 ∷ 0 ∷ [] ≡ readAnswer b (exposure y)
-  exposure-refused y g n = read-refused b (exposure y) e z g n
-
   pub exposure-read : (y : ℕ) {q r s t u : ℕ} → c ≡ lowest (readRules (state b) (exposure y)) → c ≡ 0
       → q ≡ state b exposureGivers y → r ≡ state b exposureTakers y → s ≡ state b exposureBaskets y → t ≡ state b exposureClosings y → u ≡ state b exposureAmounts y
       → 0 ∷ q ∷ r ∷ s ∷ t ∷ u ∷ [] ≡ readAnswer b (exposure y)
   exposure-read y g o f1 f2 f3 f4 f5 = rw (f1, f2, f3, f4, f5) (read-accepted b (exposure y) e z g o)
-
-  pub basket-refused : (y : ℕ) → c ≡ lowest (readRules (state b) (basket y)) → (c ≡ 0 → ⊥) → c ∷ 0 ∷ 0 ∷ 0 ∷ 0 ∷ [] ≡ readAnswer b (basket y)
-  basket-refused y g n = read-refused b (basket y) e z g n
 
   pub basket-read : (y : ℕ) {m a : ℕ} (r : declared.Report) → c ≡ lowest (readRules (state b) (basket y)) → c ≡ 0 → m ≡ state b maps y → a ≡ state b greatestAges y → r ≡ report m
       → 0 ∷ m ∷ a ∷ r .count ∷ r .lowest ∷ [] ≡ readAnswer b (basket y)
@@ -125,7 +102,7 @@ row-near s n e m = omega (arith, least-le (λ i. isUsed s i && eqb (s numbers i)
 
 module _ (b : List ℕ) (n : ℕ) {x i : ℕ} (e : x ≡ bookCode b false) (z : x ≡ 0) (f : i ≡ rowOf (state b) n) where
   pub request-refused : i ≡ 256 → 5 ∷ 0 ∷ 0 ∷ 0 ∷ 0 ∷ 0 ∷ 0 ∷ 0 ∷ 0 ∷ 0 ∷ 0 ∷ 0 ∷ 0 ∷ 0 ∷ 0 ∷ [] ≡ readAnswer b (request n)
-  request-refused h = read-refused b (request n) e z {c = 5} (rw (sym f ∙ h)) (λ w. omega arith)
+  request-refused h = read-refused b (request n) e z {c = 5} (rw (sym f ∙ h)) (λ w. omega arith) refl
 
   pub request-read : {v : List ℕ} → (i ≡ 256 → ⊥) → v ≡ filled (requestNumber (state b) i) 15 15 → v ≡ readAnswer b (request n)
   unfolding filled

@@ -2,7 +2,7 @@
 -- Assumes nothing.
 use Prim.Native.Nat.{_<_}
 use native.Mathlib.Omega.{arith}
-use Rattle.reads.proofs.Answers.{accepted-length, account-damaged, account-answer}
+use Rattle.reads.proofs.Answers.{accepted-length, damaged, account-answer}
 use Rattle.reads.proofs.Returns.{row-in}
 use borrow.Author.Needs.{needs}
 use Rattle.reads.proofs.reads_account.Statement.{statement}
@@ -12,7 +12,7 @@ book-code-requires : tie.Need-book-code-requires
 book-code-requires c κs = search needs
 
 returns : tie.Need-returns
-returns c = search account-damaged
+returns c = search damaged
 
 participant-rules-requires : tie.Need-participant-rules-requires
 participant-rules-requires c κs = search accepted-length

@@ -2,7 +2,7 @@
 -- Assumes nothing.
 use Prim.Native.Nat.{_<_}
 use native.Mathlib.Omega.{arith}
-use Rattle.reads.proofs.Answers.{accepted-length, position-damaged, position-answer}
+use Rattle.reads.proofs.Answers.{accepted-length, damaged, position-answer}
 use Rattle.reads.proofs.Returns.{row-in}
 use borrow.Author.Needs.{needs}
 use Rattle.reads.proofs.reads_position.Statement.{statement}
@@ -12,7 +12,7 @@ book-code-requires : tie.Need-book-code-requires
 book-code-requires c κs = search needs
 
 returns : tie.Need-returns
-returns c = search position-damaged
+returns c = search damaged
 
 exposure-rules-requires : tie.Need-exposure-rules-requires
 exposure-rules-requires c κs = search accepted-length

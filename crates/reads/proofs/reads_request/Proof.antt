@@ -1,8 +1,8 @@
 -- `reads::reads_request` meets its contract.
 -- Assumes nothing.
+use Prim.Native.Nat.{_<_}
 use native.Mathlib.Omega.{arith}
-use Rattle.book.specs.State.{state}
-use Rattle.reads.proofs.Answers.{accepted-length, accepted-sound, request-damaged, request-refused, request-read, row-near}
+use Rattle.reads.proofs.Answers.{accepted-length, accepted-sound, damaged, request-refused, request-read, row-near}
 use borrow.Author.Needs.{needs}
 use Rattle.reads.proofs.reads_request.Statement.{statement}
 use Rattle.reads.proofs.reads_request.Tie as tie
@@ -11,7 +11,7 @@ book-code-requires : tie.Need-book-code-requires
 book-code-requires c κs = search needs
 
 returns : tie.Need-returns
-returns c = search request-damaged
+returns c = search damaged
 
 row-of-requires : tie.Need-row-of-requires
 row-of-requires c κs = search accepted-length
@@ -20,13 +20,7 @@ returns-2 : tie.Need-returns-2
 returns-2 c = search request-refused
 
 request-answer-requires : tie.Need-request-answer-requires
-request-answer-requires c κs =
-    let test = c .before .before in
-    let s = test .before .before .before in
-    let long = accepted-length (s .args .book .now) (test .before .book-code .ensures) (test .if1 .left) in
-    let sane = accepted-sound (s .args .book .now) (test .before .book-code .ensures) (test .if1 .left) in
-    let near = row-near (state (s .args .book .now)) (s .args .number) (c .before .row-of .ensures) (c .if2 .left) in
-    (long, sane, omega arith)
+request-answer-requires c κs = let near : c .before .row-of .result < 256 = search row-near in (search accepted-length, search accepted-sound, omega arith)
 
 returns-3 : tie.Need-returns-3
 returns-3 c = search request-read
