@@ -10,7 +10,7 @@ ghost use Rattle.eligibility.specs.Fresh.{FreshBaskets};
 ghost use Rattle.bonds.specs.Moves.{SoundBook, GivingBack};
 ghost use Rattle.rules.specs.Marking.{moved, ineligibleBack, excessBack, shortfallIn, missingOf};
 ghost use Rattle.rules.specs.Stock.{positionOf, giveBack};
-ghost use Rattle.securities.specs.Security.{AllInBounds};
+ghost use Rattle.securities.specs.Bounds.{AllInBounds};
 ghost use Rattle.marking_laws.specs.Pass.{isEmpty};
 ghost use Rattle.mark_steps.specs.Stepped.{Stepped, bit, ineligibleIn, mayStay};
 use baskets::Eligibility;
