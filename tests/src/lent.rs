@@ -36,6 +36,8 @@ classes! {
     PartUnmarked,
     /// A live unpaired request past its settlement day.
     UnpairedPast,
+    /// A live unpaired FOP whose closing was reached before, to settle on another day.
+    UnpairedClosed,
     /// A live unpaired request that its owner has cancelled.
     NotedAlone,
     /// A live pair that both owners have cancelled.
@@ -78,6 +80,10 @@ impl Class {
                 pairs().any(|r| r.live() && part(r) && !r.partial && r.key().is_some())
             }
             Class::UnpairedPast => alone().any(|r| r.live() && r.settlement < today),
+            Class::UnpairedClosed => alone().any(|r| {
+                let closed = r.key().map_or(false, |key| key.closing_reached(today));
+                r.live() && closed && r.settlement > today
+            }),
             Class::NotedAlone => alone().any(|r| r.live() && r.cancelled),
             Class::NotedByBoth => pairs().any(|r| {
                 r.live() && r.cancelled && partner(r).map_or(false, |other| other.cancelled)
@@ -141,6 +147,12 @@ impl Class {
                 r.partial = false;
             }),
             Class::UnpairedPast => change(&alone, &|r, _| r.settlement = past),
+            Class::UnpairedClosed => change(&alone, &|r, _| {
+                if let Deal::Fop { closing, .. } = &mut r.deal {
+                    *closing = past;
+                    r.settlement = ahead;
+                }
+            }),
             Class::NotedAlone => change(&alone, &|r, _| r.cancelled = true),
             Class::NotedByBoth => change(&live, &|r, _| r.cancelled = true),
             Class::AnyOrder => shuffle_requests(book, random, by_halves),

@@ -474,6 +474,8 @@ turns! {
         BegunGoesOnInParts,
         /// The day change drops unpaired requests that settle today, not those of earlier days.
         EarlierUnpairedStay,
+        /// The day change drops unpaired FOPs whose closing is reached.
+        UnpairedClosedDropped,
         /// Pairing takes a cancel note away.
         PairingForgetsNote,
         /// A pair that both owners have cancelled settles no more, though it has not ended.

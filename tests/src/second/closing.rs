@@ -32,12 +32,14 @@ impl Program {
         // "drop FOP pairs with closing date reached"
         let reached_by = if self.takes(Turn::ClosingDayLater) { new_day - 1 } else { new_day };
         let on_its_day = self.takes(Turn::ClosingOnItsDay);
+        let alone_too = self.takes(Turn::UnpairedClosedDropped);
         let reached = |key: Key| match on_its_day {
             true => key.closing == new_day,
             false => key.closing_reached(reached_by),
         };
         totals.b += self.drop_rows(|_, request| {
-            if request.partner.is_some() && request.key().map_or(false, reached) {
+            let belongs = request.partner.is_some() || alone_too;
+            if belongs && request.key().map_or(false, reached) {
                 notes.reached(Branch::DropClosedPair);
                 return true;
             }
@@ -76,8 +78,8 @@ impl Program {
             _ => false,
         });
 
-        let changed = totals.b > 0 || closed.contains(&true);
-        if changed || !self.takes(Turn::FreesWhatChangedOnly) {
+        let only_changed = self.takes(Turn::FreesWhatChangedOnly);
+        if !only_changed || totals.b > 0 || closed.contains(&true) {
             self.free_exposures(notes);
         }
         if self.takes(Turn::WrongBOfDay) {
