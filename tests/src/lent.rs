@@ -252,11 +252,16 @@ fn change_some(
             continue;
         }
         let partner = request.partner.map(usize::from).filter(|_| !by_halves);
-        for request in std::iter::once(row).chain(partner) {
-            change(book.requests[request].as_mut().expect("a row in use"), part);
+        for row in std::iter::once(row).chain(partner) {
+            // An earlier change by halves may have left a partner's row that is not in use.
+            if let Some(request) = &mut book.requests[row] {
+                change(request, part);
+            }
         }
-        if let (None, Some(request), true) = (request.partner, &mut book.requests[row], by_halves) {
-            request.settled = 1;
+        if let (Some(request), true) = (&mut book.requests[row], by_halves) {
+            if request.partner.is_none() {
+                request.settled = 1;
+            }
         }
     }
 }
