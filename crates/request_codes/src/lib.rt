@@ -5,10 +5,11 @@ ghost use lib.ListN.{length};
 ghost use Rattle.book.specs.Layout.{bookLength};
 ghost use Rattle.book.specs.State.{state};
 ghost use Rattle.rules.specs.Outcome.{lowest};
+ghost use Rattle.rules.specs.Requests.{isExposureOf};
 ghost use Rattle.rules.specs.Requesting.{pairsNow, rowsNeeded};
-ghost use Rattle.rules.specs.Fields.{basketOrExposureIn};
+ghost use Rattle.rules.specs.Fields.{giverIn, takerIn, basketOrExposureIn};
 ghost use Rattle.request_search.specs.Ranges.{RequestIn};
-ghost use Rattle.request_codes.specs.Rules.{partyRules, basketNameRules, settlementRules, closingRules, takerRules, rowRules, exposureRules, fopNameRules, namesExposure};
+ghost use Rattle.request_codes.specs.Rules.{partyRules, basketNameRules, settlementRules, closingRules, takerRules, rowRules, exposureRules, fopNameRules};
 use book::layout::EXPOSURE_GIVERS;
 use book::layout::EXPOSURE_TAKERS;
 use book::layout::IN_USE;
@@ -168,7 +169,7 @@ pub fn fop_name_code(book: &[u8], fields: &[u64; 8]) -> u64
 // Is the exposure that a return names used, with its giver and taker?
 pub fn names_exposure(book: &[u8], fields: &[u64; 8]) -> bool
     requires { ⌜ (length (now book) ≡ bookLength) × RequestIn (now fields) ⌝ }
-    ensures { λ r. ⌜ r ≡ namesExposure (state (now (book .entry))) (now (fields .entry)) ⌝ }
+    ensures { λ r. ⌜ r ≡ isExposureOf (state (now (book .entry))) (giverIn (now (fields .entry))) (takerIn (now (fields .entry))) (basketOrExposureIn (now (fields .entry))) ⌝ }
 {
     let e = fields[3] as usize;
     if book::get(book, IN_USE, e) != 1 {

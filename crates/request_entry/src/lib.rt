@@ -8,6 +8,7 @@ ghost use Rattle.book.specs.State.{state};
 ghost use Rattle.rules.specs.Requesting.{exposureGiven, withTaker, withEqual, waiting};
 ghost use Rattle.request_rows.specs.Rows.{EntryIn};
 ghost use Rattle.request_entry.specs.Entering.{RoomForOne, RoomForTwo, ExposureRoom, withExposure};
+use book::layout::EXPOSURE_AMOUNTS;
 use book::layout::EXPOSURE_BASKETS;
 use book::layout::EXPOSURE_CLOSINGS;
 use book::layout::EXPOSURE_GIVERS;
@@ -58,7 +59,7 @@ pub fn enter_with_taker(book: &mut [u8], kind: u64, fields: &[u64; 8])
     book::set(book, NEXT_NUMBER, 0, number + 2);
 }
 
-// Gives out the exposure row e, with the key of a FOP.
+// Gives out the exposure row e, with the key of a FOP and the amount 0.
 fn give_exposure(book: &mut [u8], fields: &[u64; 8], e: usize)
     requires { ⌜ (length (now book) ≡ bookLength) × EntryIn 6 (now fields) × (e < 64) ⌝ }
     ensures { λ _. ⌜ state (now (book .exit)) ≡ exposureGiven (state (now (book .entry))) (now (fields .entry)) e ⌝ }
@@ -68,6 +69,7 @@ fn give_exposure(book: &mut [u8], fields: &[u64; 8], e: usize)
     book::set(book, EXPOSURE_TAKERS, e, fields[2]);
     book::set(book, EXPOSURE_BASKETS, e, fields[3]);
     book::set(book, EXPOSURE_CLOSINGS, e, fields[6]);
+    book::set(book, EXPOSURE_AMOUNTS, e, 0);
 }
 
 // A FOP pair belongs to the exposure with its key; where there is none yet, the lowest free row is given out.

@@ -8,10 +8,12 @@ ghost use Rattle.rules.specs.Requests.{freeRow};
 ghost use Rattle.rules.specs.Requesting.{partialMark};
 ghost use Rattle.rules.specs.Fields.{referenceIn};
 ghost use Rattle.request_search.specs.Ranges.{RequestIn};
-ghost use Rattle.request_rows.specs.Rows.{EntryIn, withParties, withTerms, filledRow, RowTaken};
+ghost use Rattle.request_rows.specs.Rows.{EntryIn, withParties, withTerms, withMarks, filledRow, RowTaken};
 use book::layout::AMOUNTS;
 use book::layout::BASKETS_OR_EXPOSURES;
+use book::layout::CANCELS;
 use book::layout::CLOSINGS;
+use book::layout::ENDS;
 use book::layout::GIVERS;
 use book::layout::NUMBERS;
 use book::layout::PAIR_PARTIALS;
@@ -19,6 +21,7 @@ use book::layout::PARTIALS;
 use book::layout::PARTNERS;
 use book::layout::REFERENCES;
 use book::layout::REQUEST_KINDS;
+use book::layout::SETTLED_AMOUNTS;
 use book::layout::SETTLEMENTS;
 use book::layout::SIDES;
 use book::layout::TAKERS;
@@ -51,6 +54,18 @@ fn write_terms(book: &mut [u8], kind: u64, fields: &[u64; 8], i: usize)
     book::set(book, REFERENCES, i, reference_in(kind, fields));
 }
 
+// Writes what a new row has come to: nothing settled, a partner's mark (0 for none), the pair's partial mark, no cancel and no end.
+fn write_marks(book: &mut [u8], i: usize, partner: u64, partial: u64)
+    requires { ⌜ (length (now book) ≡ bookLength) × (i < 256) × (partner ≤ 256) × (partial ≤ 1) ⌝ }
+    ensures { λ _. ⌜ state (now (book .exit)) ≡ withMarks (state (now (book .entry))) i partner partial ⌝ }
+{
+    book::set(book, SETTLED_AMOUNTS, i, 0);
+    book::set(book, PARTNERS, i, partner);
+    book::set(book, PAIR_PARTIALS, i, partial);
+    book::set(book, CANCELS, i, 0);
+    book::set(book, ENDS, i, 0);
+}
+
 // Writes a row whose number stands already: the record's fields, a side, a partner's mark (0 for none) and the pair's partial mark.
 pub fn fill_row(
     book: &mut [u8],
@@ -68,8 +83,7 @@ pub fn fill_row(
     book::set(book, SIDES, i, side);
     write_parties(book, fields, i);
     write_terms(book, kind, fields, i);
-    book::set(book, PARTNERS, i, partner);
-    book::set(book, PAIR_PARTIALS, i, partial);
+    write_marks(book, i, partner, partial);
 }
 
 // Takes the lowest free row for a request of that number.

@@ -1,7 +1,7 @@
 -- What each return of the searches shows.
 -- Assumes nothing.
-use mathlib.Core.Path.{_≡_, sym, _∙_}
-use mathlib.Core.Bool.{Bool, true, false, not, _&&_, and-false, and-true, or-false}
+use mathlib.Core.Path.{_≡_, refl, sym, _∙_}
+use mathlib.Core.Bool.{Bool, true, false, not, _&&_, _||_, and-false, and-true, or-false}
 use mathlib.Core.List.{List}
 use Prim.Native.Nat.{ℕ, _+_, _-_, _≤_, _<_}
 use native.Mathlib.Decide.{ℕ-discrete, decLt}
@@ -13,10 +13,10 @@ use Rattle.laws.specs.Bits.{hasBit}
 use Rattle.laws.specs.Search.{leastBy}
 use Rattle.book.specs.Layout.{modes, lists, numbers, requestKinds, sides, givers, takers, basketsOrExposures, amounts, settlements, closings, settledAmounts, partners, ends}
 use Rattle.book.specs.State.{State}
-use Rattle.rules.specs.Requests.{isLive, isPaired, isOwner, acceptsGiver}
-use Rattle.rules.specs.Requesting.{takerFollows, isEqual}
+use Rattle.rules.specs.Requests.{isWhole, isLive, isPaired, isOwner, acceptsGiver}
+use Rattle.rules.specs.Requesting.{takerFollows, isEqual, isOwnRequest}
 use Rattle.rules.specs.Fields.{closingIn}
-use Rattle.request_search.specs.Rows.{sameTerms, otherSide, earlierOf, openOrWhole, isOwnRequest}
+use Rattle.request_search.specs.Rows.{sameTerms, otherSide, earlierOf, openOrWhole}
 use Rattle.request_search.proofs.Searches.{leastBy-next, leastBy-le}
 
 -- the taker's mode
@@ -182,6 +182,12 @@ module _ (s : State) (i p : ℕ) {d : ℕ} (dq : d ≡ s sides i) where
   pub no-owner : (d ≡ 0 → ⊥) → (d ≡ 1 → ⊥) → false ≡ isOwner s i p
   no-owner a b = rw (← dq, ne-eqb d 0 a, ne-eqb d 1 b)
 
+-- of what is live or whole: a row that is whole need not be asked whether it is live
+live-or-whole : (opened whole : Bool) → ((opened && not whole) || whole) ≡ (opened || whole)
+live-or-whole true true = refl
+live-or-whole true false = refl
+live-or-whole false whole = refl
+
 -- the request that a cancel names
 module _ (s : State) (p number i : ℕ) {n : ℕ} (nq : n ≡ s numbers i) where
   pub other-number : (n ≡ number → ⊥) → false ≡ isOwnRequest s p number i
@@ -192,8 +198,11 @@ module _ (s : State) (p number i : ℕ) {n : ℕ} (nq : n ≡ s numbers i) where
     number-none h = rw (← nq, eq-eqb n 0 h)
 
     module _ (used : n ≡ 0 → ⊥) {o : Bool} (oq : o ≡ openOrWhole s i) where
+      as-read : (isLive s i || isWhole s i) ≡ o
+      as-read = rw (← nq, ne-eqb n 0 used) (live-or-whole (eqb (s ends i) 0) (isWhole s i)) ∙ sym oq
+
       pub ended-part : not o ≡ true → false ≡ isOwnRequest s p number i
-      ended-part h = rw (sym oq ∙ not-true o h, and-false, and-false)
+      ended-part h = rw (as-read ∙ not-true o h, and-false, and-false)
 
       pub by-owner : {b : Bool} → not o ≡ false → b ≡ isOwner s i p → b ≡ isOwnRequest s p number i
-      by-owner h bq = rw (← nq, ne-eqb n 0 used, eq-eqb n number nh, sym oq ∙ not-false o h) bq
+      by-owner h bq = rw (as-read ∙ not-false o h, ← nq, ne-eqb n 0 used, eq-eqb n number nh) bq

@@ -6,10 +6,10 @@ ghost use lib.ListN.{length};
 ghost use Rattle.book.specs.Layout.{bookLength};
 ghost use Rattle.book.specs.State.{state};
 ghost use Rattle.rules.specs.Requests.{isLive, isPaired, isOwner, acceptsGiver, freeExposure, freeRow};
-ghost use Rattle.rules.specs.Requesting.{takerFollows, isEqual, earliestEqual, ownRequest};
+ghost use Rattle.rules.specs.Requesting.{takerFollows, isEqual, earliestEqual, isOwnRequest, ownRequest};
 ghost use Rattle.rules.specs.Fields.{closingIn};
 ghost use Rattle.request_search.specs.Ranges.{RequestIn};
-ghost use Rattle.request_search.specs.Rows.{rowsFree, sameTerms, otherSide, earlierOf, openOrWhole, isOwnRequest};
+ghost use Rattle.request_search.specs.Rows.{rowsFree, sameTerms, otherSide, earlierOf, openOrWhole};
 use book::layout::AMOUNTS;
 use book::layout::BASKETS_OR_EXPOSURES;
 use book::layout::CLOSINGS;
@@ -228,7 +228,7 @@ fn is_owner(book: &[u8], i: usize, p: u64) -> bool
     false
 }
 
-// Is the row i the participant's request of that number, not ended or settled whole?
+// Is the row i the participant's request of that number, live or settled whole?
 fn is_own_request(book: &[u8], p: u64, number: u64, i: usize) -> bool
     requires { ⌜ (length (now book) ≡ bookLength) × (i < 256) ⌝ }
     ensures { λ r. ⌜ r ≡ isOwnRequest (state (now (book .entry))) p number i ⌝ }

@@ -1,7 +1,7 @@
 -- What an accepted record has to hand: rows and numbers, an exposure row, the row that a cancel names.
 -- Assumes nothing.
 use mathlib.Core.Path.{_≡_, refl, ap, _∙_}
-use mathlib.Core.Bool.{Bool, true, false, _&&_, cond}
+use mathlib.Core.Bool.{Bool, true, false, _&&_, _||_, cond}
 use mathlib.Core.List.{List, [], _∷_}
 use Prim.Native.Nat.{ℕ, _+_, _-_, _≤_, _<_}
 use native.Mathlib.Omega.{arith}
@@ -18,10 +18,10 @@ use Rattle.facts.proofs.Searches.{least-le, least-holds, count-finds, count-but
 use Rattle.facts.proofs.Truth.{split}
 use Rattle.rules.specs.Codes.{fopRules, returnRules, cancelRules, tooFewRows}
 use Rattle.rules.specs.Outcome.{lowest}
-use Rattle.rules.specs.Requests.{isUsed, isPaired, isOwner, partnerOf, freeRow, freeExposure}
-use Rattle.rules.specs.Requesting.{takerFollows, rowsNeeded, needsExposure, ownRequest}
+use Rattle.rules.specs.Requests.{isUsed, isPaired, isWhole, isLive, isOwner, partnerOf, freeRow, freeExposure}
+use Rattle.rules.specs.Requesting.{takerFollows, rowsNeeded, needsExposure, isOwnRequest, ownRequest}
 use Rattle.rules.specs.Sound.{sound}
-use Rattle.request_search.specs.Rows.{rowsFree, openOrWhole, isOwnRequest}
+use Rattle.request_search.specs.Rows.{rowsFree}
 use Rattle.request_entry.specs.Entering.{RoomForOne, RoomForTwo}
 use Rattle.requests.specs.Steps.{Room, PairIn}
 
@@ -97,7 +97,9 @@ module _ (s : State) where
     row-below = own-below r refl (eqb-false (row r) 256 (no-rule (cancelRules s r) refl h 1))
 
     row-used : isUsed s (row r) ≡ true
-    row-used = split (isUsed s (row r) ∷ eqb (s numbers (row r)) (getD r 1 0) ∷ openOrWhole s (row r) ∷ isOwner s (row r) (getD r 0 0) ∷ []) (least-holds (test r) 256 0 row-below) .0
+    row-used =
+        let i = row r in
+        split (isUsed s i ∷ eqb (s numbers i) (getD r 1 0) ∷ (isLive s i || isWhole s i) ∷ isOwner s i (getD r 0 0) ∷ []) (least-holds (test r) 256 0 row-below) .0
 
     pub cancel-below : {i : ℕ} → i ≡ row r → i < 256
     cancel-below iq = rw iq row-below

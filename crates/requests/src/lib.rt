@@ -12,7 +12,7 @@ ghost use Rattle.rules.specs.Requesting.{pairEnds, entered, cancelled};
 ghost use Rattle.rules.specs.Sound.{sound};
 ghost use Rattle.totals.specs.Totals.{totalsOf};
 ghost use Rattle.request_rows.specs.Rows.{EntryIn};
-ghost use Rattle.requests.specs.Steps.{cancelledPair, Taken, Room, PairIn};
+ghost use Rattle.requests.specs.Steps.{cancelledPair, Entered, Room, PairIn};
 use book::layout::CANCELS;
 use book::layout::ENDS;
 use book::layout::GIVERS;
@@ -72,33 +72,36 @@ pub fn return_code(book: &[u8], fields: &[u64; 8]) -> u64
     request_codes::row_code(book, fields)
 }
 
-// 6 and 7: enters a request, paired with the taker request made for it, or with the earliest equal one, or left to wait.
-fn enter(book: &mut [u8], kind: u64, fields: &[u64; 8]) -> Totals
+// Enters a request's rows, paired with the taker request made for it, or with the earliest equal one, or left to wait. The number of the
+// request that it is paired with, 0 where it waits.
+fn enter_rows(book: &mut [u8], kind: u64, fields: &[u64; 8]) -> u64
     requires { ⌜ (length (now book) ≡ bookLength) × EntryIn kind (now fields) × Room (state (now book)) kind (now fields) ⌝ }
-    ensures { λ r. ⌜ Taken (entered (state (now (book .entry))) kind (now (fields .entry))) r (state (now (book .exit))) ⌝ }
+    ensures { λ r. ⌜ Entered (state (now (book .entry))) kind (now (fields .entry)) r (state (now (book .exit))) ⌝ }
 {
-    let number = book::get(book, NEXT_NUMBER, 0);
     if request_search::does_taker_follow(book, fields) {
+        let number = book::get(book, NEXT_NUMBER, 0);
         request_entry::enter_with_taker(book, kind, fields);
         request_entry::join_exposure(book, kind, fields);
-        return Totals {
-            a: number,
-            b: number + 1,
-            m: 0,
-        };
+        return number + 1;
     }
     let j = request_search::earliest_equal(book, kind, fields);
     if 256 <= j {
         request_entry::enter_waiting(book, kind, fields);
-        return Totals {
-            a: number,
-            b: 0,
-            m: 0,
-        };
+        return 0;
     }
     let partner = book::get(book, NUMBERS, j);
     request_entry::enter_with_equal(book, kind, fields, j);
     request_entry::join_exposure(book, kind, fields);
+    partner
+}
+
+// 6 and 7: enters a request, which gets the next number.
+fn enter(book: &mut [u8], kind: u64, fields: &[u64; 8]) -> Totals
+    requires { ⌜ (length (now book) ≡ bookLength) × EntryIn kind (now fields) × Room (state (now book)) kind (now fields) ⌝ }
+    ensures { λ r. ⌜ (r ≡ totalsOf (entered (state (now (book .entry))) kind (now (fields .entry)))) × (state (now (book .exit)) ≡ entered (state (now (book .entry))) kind (now (fields .entry)) .state) ⌝ }
+{
+    let number = book::get(book, NEXT_NUMBER, 0);
+    let partner = enter_rows(book, kind, fields);
     Totals {
         a: number,
         b: partner,

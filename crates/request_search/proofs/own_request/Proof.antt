@@ -4,8 +4,7 @@ use mathlib.Core.Path.{refl, sym, _∙_}
 use Prim.Native.Nat.{_-_, _≤_}
 use native.Mathlib.Omega.{arith}
 use Rattle.book.specs.State.{state}
-use Rattle.rules.specs.Requesting.{ownRequest}
-use Rattle.request_search.specs.Rows.{isOwnRequest}
+use Rattle.rules.specs.Requesting.{isOwnRequest, ownRequest}
 use Rattle.request_search.proofs.Searches.{Ahead, found, onward, nowhere}
 use borrow.Author.Needs.{needs}
 use Rattle.request_search.proofs.own_request.Statement.{statement}
