@@ -13,7 +13,7 @@ use Rattle.book.specs.Layout.{inUse, exposureAmounts, positions}
 use Rattle.book.specs.State.{State, Lowerable}
 use Rattle.rules.specs.DayChange.{onEach, isExposureClosed, exposureClosed, isIdle, exposureFreed}
 use Rattle.rules.specs.Stock.{positionOf, holding}
-use Rattle.facts.proofs.Facts.{Sound}
+use Rattle.facts.specs.Good.{Sound}
 use Rattle.facts.proofs.Rows.{used-exposure}
 use Rattle.facts.proofs.Stock.{position-at}
 use Rattle.facts.proofs.Truth.{split}

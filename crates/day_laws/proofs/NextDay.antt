@@ -14,7 +14,8 @@ use Rattle.rules.specs.DayChange.{rowsDropped, profilesChanged, isExposureClose
 use Rattle.facts.proofs.Sums.{Sums, allNoted}
 use Rattle.rules.specs.Outcome.{lowest}
 use Rattle.rules.specs.Stock.{holding}
-use Rattle.facts.proofs.Keeps.{Good, Amounts, Keeps}
+use Rattle.facts.proofs.Keeps.{Amounts, Keeps}
+use Rattle.facts.specs.Good.{Good}
 use Rattle.day_laws.proofs.Closed.{Closing, exposures-closed, exposures-closed-amount}
 use Rattle.day_laws.proofs.Freed.{exposures-freed-good, exposures-freed-holding, exposures-freed-amount}
 use Rattle.day_laws.proofs.Paper.{told-settled, told-returned, told-ahead, told-passed}

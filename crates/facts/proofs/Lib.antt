@@ -8,3 +8,4 @@ pub mod Searches
 pub mod Stock
 pub mod Sums
 pub mod Truth
+pub mod Written

@@ -14,7 +14,8 @@ use Rattle.book.specs.Layout.{exposureAmounts}
 use Rattle.ledger.specs.Ledger.{Paper, onPaper, noted, allNoted}
 use Rattle.rules.specs.Outcome.{Event, given, settled, returned, closed}
 use Rattle.rules.specs.Stock.{holding}
-use Rattle.facts.proofs.Keeps.{Good, Amounts}
+use Rattle.facts.proofs.Keeps.{Amounts}
+use Rattle.facts.specs.Good.{Good}
 use Rattle.facts.proofs.Sums.{Sums}
 use Rattle.facts.proofs.Sums as told
 

@@ -13,14 +13,15 @@ use Rattle.laws.specs.Search.{all}
 use Rattle.laws.proofs.Cases.{either, clash, or-cases}
 use Rattle.laws.proofs.Least.{all-at}
 use Rattle.laws.proofs.Sum.{sum-same}
-use Rattle.book.specs.Layout.{today, tolerance, nextNumber, lots, prices, haircuts, quoteDays, modes, lists, partials, waitingModes, waitingLists, waitingPartials, maps, greatestAges, numbers, ends, inUse, exposureGivers, exposureTakers, exposureBaskets, exposureClosings, exposureAmounts, accounts, positions, spares}
-use Rattle.book.specs.State.{State}
+use Rattle.book.specs.Layout.{today, tolerance, nextNumber, lots, prices, haircuts, quoteDays, modes, lists, partials, waitingModes, waitingLists, waitingPartials, maps, greatestAges, numbers, ends, inUse, exposureGivers, exposureTakers, exposureBaskets, exposureClosings, exposureAmounts, accounts, positions, spares, keyTables}
+use Rattle.book.specs.State.{State, rowsAlike}
+use Rattle.book.proofs.Tables.{every-from}
 use Rattle.rules.specs.Requests.{hasKey, exposureWith}
 use Rattle.rules.specs.Stock.{holding, positionFrom}
-use Rattle.rules.specs.ByRow.{soundRow, same, alike, differs, distinctNumber, soundExposure, otherKey, distinctKey, soundPosition}
-use Rattle.facts.proofs.Facts.{Sound, all-of}
+use Rattle.rules.specs.ByRow.{soundRow, same, differs, distinctNumber, soundExposure, otherKey, distinctKey, soundPosition}
+use Rattle.facts.specs.Good.{Sound}
 use Rattle.facts.proofs.Rows.{Head, Parties, Stocked, head-facts, facts-head, used-exposure, exposure-sound, no-exposure, no-exposure-sound, used-or-not, position-facts, position-none, position-stocked}
-use Rattle.facts.proofs.Truth.{split, join}
+use Rattle.facts.proofs.Truth.{split, join, all-of}
 use Rattle.request_laws.proofs.Finding.{exposure-passes, exposure-found}
 
 -- the tables of the request rows, those of an exposure's row but its amount, and those that such a step leaves
@@ -81,7 +82,7 @@ module _ (s : State) where
   earlier-key d e h l u v k =
       let others : all (otherKey s d) d 0 ≡ true = rw u at h in
       let other : otherKey s d e ≡ true = all-at (otherKey s d) d 0 others e (omega arith) (omega arith) in
-      let whole : alike s 4 exposureGivers d e ≡ true = all-of (λ f. same s f d e) 4 exposureGivers (λ f g m. eq-eqb (s f d) (s f e) (k f g m)) in
+      let whole : rowsAlike s keyTables d e ≡ true = every-from (λ f. same s f d e) 4 exposureGivers ∙ all-of (λ f. same s f d e) 4 exposureGivers (λ f g m. eq-eqb (s f d) (s f e) (k f g m)) in
       clash other (rw (v, whole))
 
   pub keys-facts : ((e : ℕ) → e < 64 → distinctKey s e ≡ true) → Keys s
@@ -99,11 +100,11 @@ module _ (s : State) where
   key-differs keys e d l m u =
       ⊎-elim
       (λ (v : eqb (s inUse d) 1 ≡ true). ⊎-elim
-      (λ (a : alike s 4 exposureGivers e d ≡ true).
-      let k : SameKey s e d = λ f g n. eqb-true (s f e) (s f d) (all-at (λ f. same s f e d) 4 exposureGivers a f g n) in
+      (λ (a : rowsAlike s keyTables e d ≡ true).
+      let k : SameKey s e d = λ f g n. eqb-true (s f e) (s f d) (all-at (λ f. same s f e d) 4 exposureGivers (sym (every-from (λ f. same s f e d) 4 exposureGivers) ∙ a) f g n) in
       absurd (omega (arith, keys e d l (omega arith) u (eqb-true (s inUse d) 1 v) k)))
-      (λ (a : alike s 4 exposureGivers e d ≡ false). rw (a, and-false))
-      (either (alike s 4 exposureGivers e d)))
+      (λ (a : rowsAlike s keyTables e d ≡ false). rw (a, and-false))
+      (either (rowsAlike s keyTables e d)))
       (λ (v : eqb (s inUse d) 1 ≡ false). rw v)
       (either (eqb (s inUse d) 1))
 

@@ -17,7 +17,8 @@ use Rattle.rules.specs.Requests.{partnerOf}
 use Rattle.rules.specs.Requesting.{exposureOf, exposureGiven}
 use Rattle.rules.specs.Fields.{giverIn, takerIn, basketOrExposureIn, closingIn}
 use Rattle.rules.specs.ByRow.{soundExposure, soundRow}
-use Rattle.facts.proofs.Keeps.{Good, Keeps, Amounts}
+use Rattle.facts.proofs.Keeps.{Keeps, Amounts}
+use Rattle.facts.specs.Good.{Good}
 use Rattle.facts.proofs.Rows.{Parties, head-facts, exposure-sound, no-exposure}
 use Rattle.request_laws.proofs.Covering.{Covers, Keys, SameKey, isExposureTable, distinct-facts, keys-facts, parties-kept, exposure-kept, bonds-kept, covered}
 use Rattle.request_laws.proofs.Entries.{FopIn, fopIn, RequestIn}

@@ -9,7 +9,8 @@ use Rattle.book.specs.State.{State, Fits}
 use Rattle.facts.proofs.Sums.{allNoted}
 use Rattle.rules.specs.Outcome.{Step, Event}
 use Rattle.rules.specs.ByRow.{soundRow}
-use Rattle.facts.proofs.Keeps.{Good, Keeps}
+use Rattle.facts.proofs.Keeps.{Keeps}
+use Rattle.facts.specs.Good.{Good}
 use Rattle.request_laws.proofs.Covering.{Covers, SameExposure, Distinct, bonds-kept, rows-covered}
 
 -- a step, of which only the state and the events matter here

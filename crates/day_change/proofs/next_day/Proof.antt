@@ -4,7 +4,7 @@ use mathlib.Core.Path.{ap, _∙_}
 use native.Mathlib.Omega.{arith}
 use Rattle.calendar.specs.Target.{nextOpenDay}
 use Rattle.book.specs.State.{state}
-use Rattle.facts.proofs.Facts.{sound-facts}
+use Rattle.facts.proofs.Written.{sound-facts}
 use Rattle.facts.proofs.Stock.{today-le}
 use Rattle.day_laws.proofs.Profiles.{next-day-within}
 use Rattle.day_exposures.proofs.Exposures.{sound-closable}
