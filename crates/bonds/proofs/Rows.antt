@@ -5,8 +5,8 @@ use mathlib.Core.List.{List}
 use Prim.Native.Nat.{ℕ, _≤_, _<_}
 use lib.ListN.{getD}
 use Rattle.baskets.specs.declared.Basket.{Basket}
-use Rattle.securities.specs.Position.{nominalsOf, Within}
-use Rattle.securities.specs.Security.{AllInBounds}
+use Rattle.securities.specs.Position.{nominalsOf}
+use Rattle.securities.specs.Bounds.{AllInBounds, Within}
 use Rattle.book.specs.Layout.{inUse, exposureBaskets, exposureAmounts}
 use Rattle.book.specs.State.{state}
 use Rattle.book.proofs.Images.{state-fits}

@@ -34,7 +34,11 @@ abbrev pub clearRow : State → List ℕ → ℕ → State
 clearRow s [] i = s
 clearRow s (f ∷ fs) i = clearRow (put s f i 0) fs i
 
--- it holds these numbers, the same as another row, nothing
+-- its numbers; that they are these, those of another row, all 0
+abbrev pub rowIn : State → List ℕ → ℕ → List ℕ
+rowIn s [] i = []
+rowIn s (f ∷ fs) i = s f i ∷ rowIn s fs i
+
 abbrev pub rowIs : State → List ℕ → ℕ → List ℕ → Bool
 rowIs s [] i xs = true
 rowIs s (f ∷ fs) i [] = true

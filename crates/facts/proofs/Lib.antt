@@ -1,6 +1,7 @@
 pub mod Facts
 pub mod Filled
 pub mod Keeps
+pub mod Precedence
 pub mod Ranges
 pub mod Rows
 pub mod Rules

@@ -17,8 +17,9 @@ use Rattle.laws.proofs.Filled.{filled-at}
 use Rattle.laws.proofs.Sum.{sum-part}
 use Rattle.calendar.specs.Target.{openDay}
 use Rattle.calendar.proofs.OpenDays.{open-within}
-use Rattle.securities.specs.Security.{securityAt, InBounds, AllInBounds}
-use Rattle.securities.specs.Position.{Within, nominalsOf}
+use Rattle.securities.specs.Security.{securityAt}
+use Rattle.securities.specs.Bounds.{InBounds, AllInBounds, Within}
+use Rattle.securities.specs.Position.{nominalsOf}
 use Rattle.book.specs.Layout.{today, securityTables, lots, prices, haircuts, quoteDays, greatestAges, maps, inUse, exposureGivers, accounts, positions}
 use Rattle.book.specs.State.{State, columnsOf, rowAt}
 use Rattle.laws.specs.Search.{between}

@@ -27,7 +27,7 @@ use Rattle.request_laws.proofs.Cancelling.{keeps-cancel}
 use Rattle.settlement_laws.proofs.Keeping.{keeps-settlement}
 use Rattle.marking_laws.proofs.Marking.{keeps-mark, keeps-recall}
 use Rattle.day_laws.proofs.NextDay.{keeps-next-day}
-use Rattle.ledger.proofs.Paper.{InOrder, on-paper, noted-steps}
+use Rattle.ledger.proofs.Paper.{InOrder, on-paper}
 use Rattle.records.proofs.Readings.{reading-taken}
 use Rattle.ledger.proofs.Steps.{StepsKeep, opening-in-order, taken-in-order}
 
@@ -40,18 +40,14 @@ code-cases c n h =
     (either (eqb c 0))
 
 module _ (s : State) (bytes : List ℕ) where
-  accepted-record : recordCode s bytes ≡ 0 → (read bytes .code ≡ 0) × (codeOf s (read bytes .kind) (read bytes .fields) ≡ 0)
+  pub accepted-record : recordCode s bytes ≡ 0 → (read bytes .code ≡ 0) × (codeOf s (read bytes .kind) (read bytes .fields) ≡ 0)
   unfolding recordCode
   accepted-record h = code-cases (read bytes .code) (codeOf s (read bytes .kind) (read bytes .fields)) h
 
 -- the state that a record leaves on paper is its step's
-taken-steps : (p : Paper) (k : ℕ) (r : List ℕ) → takenDown p k r .steps ≡ stepOf (onPaper p) k r .state
+pub taken-steps : (p : Paper) (k : ℕ) (r : List ℕ) → takenDown p k r .steps ≡ stepOf (onPaper p) k r .state
 unfolding takenDown
-taken-steps p k r =
-    ⊎-elim
-    (λ z. rw z)
-    (λ z. rw z (noted-steps _ (stepOf (onPaper p) k r .events)))
-    (either (eqb k 0))
+taken-steps p k r = ⊎-elim (λ z. rw z) (λ z. rw z) (either (eqb k 0))
 
 -- a call on the bytes of a sound state: neither 1 nor 2 comes, and the step is the state's
 module _ (s : State) (good : Good s) where
@@ -131,11 +127,7 @@ agrees b p e o =
     (record {
       bonds = λ q i h l. omega (arith, o .bonds q i h l);
       withdrawn-within = λ q i h l. omega (arith, o .bonds q i h l);
-      rows = λ e l. refl;
-      givers = λ e l. refl;
-      takers = λ e l. refl;
-      baskets = λ e l. refl;
-      closings = λ e l. refl;
+      keys = λ e l. refl;
       amounts = λ e l. omega (arith, o .amounts e);
       not-below = λ e l. omega (arith, o .amounts e);
     })
@@ -153,13 +145,13 @@ module _ (b bytes : List ℕ) (o : Opened b bytes) where
   record-taken : read bytes .code ≡ 0
   record-taken = accepted-record (state b) bytes at-record .0
 
-  kind-zero : read bytes .kind ≡ 0
+  pub kind-zero : read bytes .kind ≡ 0
   kind-zero = reading-taken bytes record-taken .first-byte ∙ eqb-true (getD bytes 0 0) 0 (and-right (not (eqb (length bytes) 0)) (eqb (getD bytes 0 0) 0) (o .kind))
 
-  legal : areLegal 0 (read bytes .fields) ≡ true
+  pub legal : areLegal 0 (read bytes .fields) ≡ true
   legal = rw kind-zero at (reading-taken bytes record-taken .legal)
 
-  no-rule : lowest (openingRules (read bytes .fields)) ≡ 0
+  pub no-rule : lowest (openingRules (read bytes .fields)) ≡ 0
   unfolding codeOf
   no-rule = rw kind-zero at (accepted-record (state b) bytes at-record .1)
 
@@ -176,29 +168,27 @@ module _ (b bytes : List ℕ) (o : Opened b bytes) where
   unfolding paperNext
   opened-paper p = rw (opening-code (onPaper p), kind-zero)
 
--- demand 3, by what the kinds 6 to 12 keep
-pub demand-3-from : StepsKeep → Demand3
+-- what the kinds 6 to 12 keep
+pub steps-keep : StepsKeep
+steps-keep = record {
+  fop = keeps-fop;
+  return = keeps-return;
+  cancel = keeps-cancel;
+  settle = keeps-settlement;
+  mark = keeps-mark;
+  recalls = keeps-recall;
+  next-day = keeps-next-day;
+}
+
+-- demand 3
+pub demand-3 : Demand3
 unfolding bookCode bookNext paperCode bookCodes bookAfter paperCodes paperAfter
-demand-3-from laws b p bytes calls o =
+demand-3 b p bytes calls o =
     let next = opened-paper b bytes o p in
     let start : InOrder (paperNext p (send bytes)) = rw next (opening-in-order p (read bytes .fields) (legal b bytes o) (no-rule b bytes o)) in
     let book : callBook b bytes ≡ image (paperNext p (send bytes) .steps) = rw next (opened-book b bytes o p) in
-    let rest = run laws calls (callBook b bytes) (paperNext p (send bytes)) book start in
+    let rest = run steps-keep calls (callBook b bytes) (paperNext p (send bytes)) book start in
     record {
       codes = ap₂ _∷_ (o .accepted ∙ sym (opening-code b bytes o (onPaper p))) (rest .codes);
       agrees = agrees (bookAfter (callBook b bytes) calls) (paperAfter (paperNext p (send bytes)) calls) (rest .left) (rest .in-order);
     }
-
--- demand 3
-pub demand-3 : Demand3
-demand-3 =
-    demand-3-from
-    (record {
-      fop = keeps-fop;
-      return = keeps-return;
-      cancel = keeps-cancel;
-      settle = keeps-settlement;
-      mark = keeps-mark;
-      recalls = keeps-recall;
-      next-day = keeps-next-day;
-    })

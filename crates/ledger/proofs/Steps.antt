@@ -12,10 +12,10 @@ use Rattle.book.specs.State.{State}
 use Rattle.rules.specs.Call.{stepOf}
 use Rattle.rules.specs.Codes.{openingRules, depositRules, withdrawalRules, fopRules, returnRules, cancelRules, recallRules, nextDayRules, codeOf}
 use Rattle.rules.specs.DayChange.{nextDay}
-use Rattle.ledger.specs.Ledger.{Paper, stepped, fresh, lodged, allNoted, more2, takenDown}
+use Rattle.ledger.specs.Ledger.{Paper, fresh, lodged, allNoted, takenDown}
 use Rattle.rules.specs.Marking.{marked, recall}
 use Rattle.rules.specs.Outcome.{Step, lowest}
-use Rattle.rules.specs.Fields.{field}
+use Rattle.rules.specs.Fields.{depositKind, withdrawalKind, field}
 use Rattle.rules.specs.Requesting.{entered, cancelled}
 use Rattle.rules.specs.Settlement.{settlement}
 use Rattle.rules.specs.SetUp.{opened, priced, enrolled, basketMade, deposited, withdrawn}
@@ -45,10 +45,15 @@ opening-in-order p r legal accepted = record {
 
 -- the paper with a step of kind k taken down
 abbrev pub down : Paper → ℕ → List ℕ → Step → Paper
-down p k r t = allNoted (lodged (stepped p (t .state)) k r) (t .events)
+down p k r t = record {
+  steps = t .state;
+  deposits = lodged depositKind (p .deposits) k r;
+  withdrawals = lodged withdrawalKind (p .withdrawals) k r;
+  sums = allNoted (p .sums) (t .events);
+}
 
 -- what a deposit adds to D, and a withdrawal to W
-adds : (r : List ℕ) (f : ℕ → ℕ → ℕ) (q j : ℕ) → more2 f (field r 0) (field r 1) (field r 2) q j ≡ f q j + nominalAt r q j
+adds : (r : List ℕ) (f : ℕ → ℕ → ℕ) (q j : ℕ) → cond (eqb q (field r 0) && eqb j (field r 1)) (f q j + field r 2) (f q j) ≡ f q j + nominalAt r q j
 adds r f q j = go (eqb q (field r 0) && eqb j (field r 1))
   where
     go : (b : Bool) → cond b (f q j + field r 2) (f q j) ≡ f q j + cond b (field r 2) 0
@@ -58,24 +63,30 @@ adds r f q j = go (eqb q (field r 0) && eqb j (field r 1))
 module _ (p : Paper) (o : InOrder p) (r : List ℕ) where
   -- a step that keeps each participant's bonds
   kept-in-order : (k : ℕ) (t : Step) → eqb k 4 ≡ false → eqb k 5 ≡ false → Keeps (p .steps) t → InOrder (down p k r t)
-  kept-in-order k t d w keeps =
-      noted-in-order (lodged (stepped p (t .state)) k r) (t .events) (keeps .good) (keeps .amounts (sumsOf p) (o .amounts))
-      (λ q i h l. rw (d, w, keeps .bonds q i h l) (o .bonds q i h l))
+  kept-in-order k t d w keeps = record {
+    good = keeps .good;
+    amounts = noted-in-order (t .state) (p .sums) (t .events) (keeps .amounts (sumsOf (p .sums)) (o .amounts));
+    bonds = λ q i h l. rw (d, w, keeps .bonds q i h l) (o .bonds q i h l);
+  }
 
   -- "A deposit adds to D, a withdrawal to W."
   deposit-in-order : areLegal 4 r ≡ true → lowest (depositRules (p .steps) r) ≡ 0 → InOrder (down p 4 r (deposited (p .steps) r))
   deposit-in-order legal accepted =
       let keeps = deposit (p .steps) r (o .good) legal accepted in
-      let q = lodged (stepped p (deposited (p .steps) r .state)) 4 r in
-      noted-in-order q (deposited (p .steps) r .events) (keeps .good) (keeps .amounts (sumsOf p) (o .amounts))
-      (λ x i h l. omega (arith, keeps .bonds x i h l, adds r (p .deposits) x i, o .bonds x i h l))
+      record {
+        good = keeps .good;
+        amounts = noted-in-order (deposited (p .steps) r .state) (p .sums) (deposited (p .steps) r .events) (keeps .amounts (sumsOf (p .sums)) (o .amounts));
+        bonds = λ x i h l. omega (arith, keeps .bonds x i h l, adds r (p .deposits) x i, o .bonds x i h l);
+      }
 
   withdrawal-in-order : areLegal 5 r ≡ true → lowest (withdrawalRules (p .steps) r) ≡ 0 → InOrder (down p 5 r (withdrawn (p .steps) r))
   withdrawal-in-order legal accepted =
       let keeps = withdrawal (p .steps) r (o .good) legal accepted in
-      let q = lodged (stepped p (withdrawn (p .steps) r .state)) 5 r in
-      noted-in-order q (withdrawn (p .steps) r .events) (keeps .good) (keeps .amounts (sumsOf p) (o .amounts))
-      (λ x i h l. omega (arith, keeps .bonds x i h l, adds r (p .withdrawals) x i, o .bonds x i h l))
+      record {
+        good = keeps .good;
+        amounts = noted-in-order (withdrawn (p .steps) r .state) (p .sums) (withdrawn (p .steps) r .events) (keeps .amounts (sumsOf (p .sums)) (o .amounts));
+        bonds = λ x i h l. omega (arith, keeps .bonds x i h l, adds r (p .withdrawals) x i, o .bonds x i h l);
+      }
 
   -- each kind, its fields in their ranges and accepted by its rules
   abbrev Kept : ℕ → Type 0

@@ -8,12 +8,12 @@ use lib.Dec.{eqb}
 use lib.ListN.{length, replicate}
 use Rattle.laws.specs.Numbers.{bytesOf}
 use Rattle.calendar.specs.Target.{openDay}
-use Rattle.book.specs.Layout.{bookLength, inUse, exposureGivers, exposureTakers, exposureBaskets, exposureClosings, exposureAmounts}
-use Rattle.book.specs.State.{State, state}
+use Rattle.book.specs.Layout.{bookLength, inUse, exposureAmounts, keyTables}
+use Rattle.book.specs.State.{State, state, rowIn}
 use Rattle.records.specs.Reading.{read}
 use Rattle.rules.specs.Call.{stepOf, recordCode, opens, callCode, callBook}
 use Rattle.rules.specs.Outcome.{Event, given, settled, returned, closed, lowest}
-use Rattle.rules.specs.Fields.{field}
+use Rattle.rules.specs.Fields.{openingKind, depositKind, withdrawalKind, accountOwner, accountSecurity, nominalIn}
 use Rattle.rules.specs.Reads.{Read, readRules, readCode}
 use Rattle.rules.specs.Stock.{holding}
 
@@ -22,107 +22,65 @@ pub data Call : Type 0 where
   send : List ℕ → Call
   ask : Read → Call
 
--- "It keeps on paper what Steps speak of, and sums": D and W for each participant and security, S, R and C for each exposure row
-pub record Paper : Type 0 where
-  pub steps : State
-  pub deposits : ℕ → ℕ → ℕ
-  pub withdrawals : ℕ → ℕ → ℕ
+-- S (settled), R (returned), C (closed) for each exposure row
+pub record Sums : Type 0 where
   pub settledIn : ℕ → ℕ
   pub returns : ℕ → ℕ
   pub closes : ℕ → ℕ
 
+-- "It keeps on paper what Steps speak of, and sums: D (deposited), W (withdrawn) for each participant and security", and those
+pub record Paper : Type 0 where
+  pub steps : State
+  pub deposits : ℕ → ℕ → ℕ
+  pub withdrawals : ℕ → ℕ → ℕ
+  pub sums : Sums
+
 -- "An exposure's amount on paper is S − R − C."
-abbrev pub amountOnPaper : Paper → ℕ → ℕ
+abbrev pub amountOnPaper : Sums → ℕ → ℕ
 amountOnPaper p e = p .settledIn e - p .returns e - p .closes e
 
 -- what the Steps are run on: the paper, with the amount of each exposure row by its sums
 unfoldable pub onPaper : Paper → State
-onPaper p f i = cond (eqb f exposureAmounts) (amountOnPaper p i) (p .steps f i)
+onPaper p f i = cond (eqb f exposureAmounts) (amountOnPaper (p .sums) i) (p .steps f i)
 
--- "is added to": a sum of each exposure row with n more in the row e
-abbrev pub more : (ℕ → ℕ) → ℕ → ℕ → ℕ → ℕ
-more f e n d = cond (eqb d e) (f d + n) (f d)
+-- "is added to": a sum of each exposure row with n more in the row e; "starts with .. 0": with 0 there
+abbrev pub addedAt : (ℕ → ℕ) → ℕ → ℕ → ℕ → ℕ
+addedAt f e n d = cond (eqb d e) (f d + n) (f d)
 
--- "adds to": a sum of each participant and security with n more at the participant p and the security i
-abbrev pub more2 : (ℕ → ℕ → ℕ) → ℕ → ℕ → ℕ → ℕ → ℕ → ℕ
-more2 f p i n q j = cond (eqb q p && eqb j i) (f q j + n) (f q j)
-
--- "starts with .. 0": a sum of each exposure row with 0 in the row e
 abbrev pub zeroAt : (ℕ → ℕ) → ℕ → ℕ → ℕ
 zeroAt f e d = cond (eqb d e) 0 (f d)
 
 -- "A row given out starts with S, R and C at 0. What a FOP settles is added to its exposure's S, what a return settles to R.
 -- In 12, a zeroed exposure's amount is added to C."
-abbrev pub noted : Paper → Event → Paper
-noted p (given e) = record {
-  steps = p .steps;
-  deposits = p .deposits;
-  withdrawals = p .withdrawals;
-  settledIn = zeroAt (p .settledIn) e;
-  returns = zeroAt (p .returns) e;
-  closes = zeroAt (p .closes) e;
-}
-noted p (settled e x) = record {
-  steps = p .steps;
-  deposits = p .deposits;
-  withdrawals = p .withdrawals;
-  settledIn = more (p .settledIn) e x;
-  returns = p .returns;
-  closes = p .closes;
-}
-noted p (returned e x) = record {
-  steps = p .steps;
-  deposits = p .deposits;
-  withdrawals = p .withdrawals;
-  settledIn = p .settledIn;
-  returns = more (p .returns) e x;
-  closes = p .closes;
-}
-noted p (closed e x) = record {
-  steps = p .steps;
-  deposits = p .deposits;
-  withdrawals = p .withdrawals;
-  settledIn = p .settledIn;
-  returns = p .returns;
-  closes = more (p .closes) e x;
-}
+abbrev pub noted : Sums → Event → Sums
+noted p (given e) = record { settledIn = zeroAt (p .settledIn) e; returns = zeroAt (p .returns) e; closes = zeroAt (p .closes) e }
+noted p (settled e x) = record { settledIn = addedAt (p .settledIn) e x; returns = p .returns; closes = p .closes }
+noted p (returned e x) = record { settledIn = p .settledIn; returns = addedAt (p .returns) e x; closes = p .closes }
+noted p (closed e x) = record { settledIn = p .settledIn; returns = p .returns; closes = addedAt (p .closes) e x }
 
 -- what a step tells of the exposure rows, one event after the other
-unfoldable pub allNoted : Paper → List Event → Paper
+unfoldable pub allNoted : Sums → List Event → Sums
 allNoted p [] = p
 allNoted p (e ∷ es) = allNoted (noted p e) es
 
--- "takes its step there": the paper with the state that a step leaves
-abbrev pub stepped : Paper → State → Paper
-stepped p s = record {
-  steps = s;
-  deposits = p .deposits;
-  withdrawals = p .withdrawals;
-  settledIn = p .settledIn;
-  returns = p .returns;
-  closes = p .closes;
-}
-
 -- "An opening sets all sums to 0."
 abbrev pub fresh : State → Paper
-fresh s = record { steps = s; deposits = λ p i. 0; withdrawals = λ p i. 0; settledIn = λ e. 0; returns = λ e. 0; closes = λ e. 0 }
+fresh s = record { steps = s; deposits = λ p i. 0; withdrawals = λ p i. 0; sums = record { settledIn = λ e. 0; returns = λ e. 0; closes = λ e. 0 } }
 
--- "A deposit adds to D, a withdrawal to W."
-abbrev pub lodged : Paper → ℕ → List ℕ → Paper
-lodged p k r = record {
-  steps = p .steps;
-  deposits = cond (eqb k 4) (more2 (p .deposits) (field r 0) (field r 1) (field r 2)) (p .deposits);
-  withdrawals = cond (eqb k 5) (more2 (p .withdrawals) (field r 0) (field r 1) (field r 2)) (p .withdrawals);
-  settledIn = p .settledIn;
-  returns = p .returns;
-  closes = p .closes;
-}
+-- "A deposit adds to D, a withdrawal to W": the sum of a participant and security with the record's nominal more, if the record is of that kind
+abbrev pub lodged : ℕ → (ℕ → ℕ → ℕ) → ℕ → List ℕ → ℕ → ℕ → ℕ
+lodged kind f k r q i = cond (eqb k kind && (eqb q (accountOwner r) && eqb i (accountSecurity r))) (f q i + nominalIn r) (f q i)
 
 -- "A call with 0 is accepted and takes its step there": an accepted record of kind k and fields r on paper
 unfoldable pub takenDown : Paper → ℕ → List ℕ → Paper
 takenDown p k r =
     let step = stepOf (onPaper p) k r in
-    cond (eqb k 0) (fresh (step .state)) (allNoted (lodged (stepped p (step .state)) k r) (step .events))
+    cond (eqb k openingKind) (fresh (step .state)) (record {
+      steps = step .state;
+      deposits = lodged depositKind (p .deposits) k r;
+      withdrawals = lodged withdrawalKind (p .withdrawals) k r;
+      sums = allNoted (p .sums) (step .events);
+    })
 
 -- "A call's code on paper is the one that the rules above give, 0 if none applies (1 and 2 never do)."
 unfoldable pub paperCode : Paper → Call → ℕ
@@ -171,16 +129,12 @@ pub record Agrees (s : State) (p : Paper) : Type 0 where
   pub bonds : (q i : ℕ) → q < 32 → i < 64 → holding s q i ≡ p .deposits q i - p .withdrawals q i
   pub withdrawn-within : (q i : ℕ) → q < 32 → i < 64 → p .withdrawals q i ≤ p .deposits q i
   -- "The exposures in use are exactly those of document 01's ledger, in the same rows and under the same keys"
-  pub rows : (e : ℕ) → e < 64 → s inUse e ≡ p .steps inUse e
-  pub givers : (e : ℕ) → e < 64 → s exposureGivers e ≡ p .steps exposureGivers e
-  pub takers : (e : ℕ) → e < 64 → s exposureTakers e ≡ p .steps exposureTakers e
-  pub baskets : (e : ℕ) → e < 64 → s exposureBaskets e ≡ p .steps exposureBaskets e
-  pub closings : (e : ℕ) → e < 64 → s exposureClosings e ≡ p .steps exposureClosings e
+  pub keys : (e : ℕ) → e < 64 → rowIn s (inUse ∷ keyTables) e ≡ rowIn (p .steps) (inUse ∷ keyTables) e
   -- "the amount of each equals the amounts settled into it less those returned and those closed since its row was last given out": a
   -- difference that does not go below 0. It is said of every row, in use or not: an exposure that a day change zeroes is freed by the
   -- same day change, so C is 0 in every row in use, and said of those alone it would hold of a ledger that forgets closings
-  pub amounts : (e : ℕ) → e < 64 → s exposureAmounts e ≡ amountOnPaper p e
-  pub not-below : (e : ℕ) → e < 64 → p .returns e + p .closes e ≤ p .settledIn e
+  pub amounts : (e : ℕ) → e < 64 → s exposureAmounts e ≡ amountOnPaper (p .sums) e
+  pub not-below : (e : ℕ) → e < 64 → p .sums .returns e + p .sums .closes e ≤ p .sums .settledIn e
 
 -- a list "that begins with an accepted opening, whatever the book held before"
 pub record Opened (b bytes : List ℕ) : Type 0 where

@@ -1,9 +1,11 @@
 // Whole lots of one security: how many a pick takes, how many a free gives back. One division finds each.
 ghost use mathlib.Core.Path.{_≡_};
 ghost use Prim.Native.Nat.{_<_, _≤_, _-_, _*_, _/_, min};
-ghost use Rattle.securities.specs.Security.{InBounds};
-ghost use Rattle.valuation.specs.Value.{value, Bounded};
-ghost use Rattle.parcels.specs.Lots.{parcelToPick, parcelToSpare, nominalToKeep};
+ghost use Rattle.securities.specs.Bounds.{InBounds};
+ghost use Rattle.valuation.specs.Value.{value};
+ghost use Rattle.valuation.specs.Inverse.{Bounded};
+ghost use Rattle.parcels.specs.Lots.{parcelToPick};
+ghost use Rattle.parcels.specs.Spare.{parcelToSpare, nominalToKeep};
 use securities::Security;
 use valuation::Pricing;
 

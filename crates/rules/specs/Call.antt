@@ -1,8 +1,9 @@
 -- One call with a record, whole: the answer and the book's bytes, for every book and record that a caller can lend.
 -- Assumes nothing.
-use mathlib.Core.Bool.{Bool, not, _&&_, cond}
+use mathlib.Core.Path.{_≡_}
+use mathlib.Core.Bool.{Bool, true, not, _&&_, cond}
 use mathlib.Core.List.{List, [], _∷_}
-use Prim.Native.Nat.{ℕ}
+use Prim.Native.Nat.{ℕ, _<_}
 use lib.Dec.{eqb}
 use lib.ListN.{length, getD}
 use Rattle.book.specs.Layout.{bookLength}
@@ -66,3 +67,12 @@ callAnswer book bytes =
 
 unfoldable pub callBook : List ℕ → List ℕ → List ℕ
 callBook book bytes = cond (eqb (callCode book bytes) 0) (image (callStep book bytes .state)) book
+
+-- an accepted call leaves a sound book whose state is the step's
+pub record LeavesSound (book bytes : List ℕ) : Type 0 where
+  pub stepped : state (callBook book bytes) ≡ callStep book bytes .state
+  pub still-sound : sound (state (callBook book bytes)) ≡ true
+
+-- for every book of bytes and every record
+abbrev pub AcceptedLeavesSound : Type 0
+AcceptedLeavesSound = (book bytes : List ℕ) → ((i : ℕ) → getD book i 0 < 256) → callCode book bytes ≡ 0 → LeavesSound book bytes

@@ -2,11 +2,11 @@
 -- Assumes nothing.
 use mathlib.Core.Bool.{Bool, not, _&&_, _||_}
 use mathlib.Core.List.{List}
-use Prim.Native.Nat.{ℕ, _+_, _≤_, _<_}
+use Prim.Native.Nat.{ℕ, _+_}
 use lib.Dec.{eqb, leb}
 use lib.ListN.{getD}
 use Rattle.calendar.specs.Target.{openDay}
-use Rattle.valuation.specs.Value.{Bounded, legalPricing}
+use Rattle.valuation.specs.Value.{legalPricing}
 use Rattle.laws.specs.Search.{all}
 use Rattle.securities.specs.declared.Security as declared
 
@@ -21,16 +21,6 @@ securityAt columns i = record {
 -- set up: it has a lot
 abbrev pub isSetUp : declared.Security → Bool
 isSetUp s = not (eqb (s .lot) 0)
-
--- what picking and freeing count on: numbers within their bounds, and a price where it is set up
-pub record InBounds (s : declared.Security) : Type 0 where
-  pub lot-le : s .lot ≤ 1000000
-  pub bounded : Bounded (s .pricing)
-  pub priced : 0 < s .lot → 1 ≤ s .pricing .price
-
--- all 64 of them
-pub record AllInBounds (columns : List ℕ) : Type 0 where
-  pub in-bounds : (i : ℕ) → i < 64 → InBounds (securityAt columns i)
 
 -- a host's numbers of a security that is not set up: nothing but zeros
 abbrev pub isBlank : declared.Security → Bool

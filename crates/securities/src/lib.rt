@@ -4,8 +4,9 @@ ghost use mathlib.Core.Path.{_≡_};
 ghost use Prim.Native.Nat.{_<_, _≤_};
 ghost use mathlib.Core.Bool.{true};
 ghost use Rattle.calendar.specs.Target.{openDay};
-ghost use Rattle.securities.specs.Position.{worth, valueAt, nominalsOf, Within, legalNominalAt, legalNominals};
-ghost use Rattle.securities.specs.Security.{securityAt, AllInBounds, legalSecurity, legalQuote, legalAt, quotedAt, legalSecurities, legalQuotes};
+ghost use Rattle.securities.specs.Position.{worth, valueAt, nominalsOf, legalNominalAt, legalNominals};
+ghost use Rattle.securities.specs.Security.{securityAt, legalSecurity, legalQuote, legalAt, quotedAt, legalSecurities, legalQuotes};
+ghost use Rattle.securities.specs.Bounds.{AllInBounds, Within};
 use valuation::Pricing;
 
 pub struct Security {

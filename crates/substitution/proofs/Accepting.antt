@@ -16,8 +16,8 @@ use Rattle.baskets.specs.declared.Eligibility.{Eligibility}
 use Rattle.picking.specs.Pick.{picked, butNot}
 use Rattle.picking.specs.declared.Outcome.{Outcome}
 use Rattle.picking.proofs.Picks.{picked-eligible-but}
-use Rattle.securities.specs.Position.{worth, nominalsOf, Within}
-use Rattle.securities.specs.Security.{AllInBounds}
+use Rattle.securities.specs.Position.{worth, nominalsOf}
+use Rattle.securities.specs.Bounds.{AllInBounds, Within}
 use Rattle.securities.proofs.Positions.{sum-worth-le}
 use Rattle.book.specs.Layout.{today, tolerance, exposureGivers, exposureAmounts, accounts}
 use Rattle.book.specs.State.{State, state, rowAt, columnsOf}

@@ -1,7 +1,8 @@
 // The value of a nominal at a security's price and haircut. It needs no book, and other desks link it by itself.
 ghost use mathlib.Core.Path.{_≡_};
 ghost use Prim.Native.Nat.{_≤_};
-ghost use Rattle.valuation.specs.Value.{value, Bounded, nominalWithin, legalPricing, valued};
+ghost use Rattle.valuation.specs.Value.{value, legalPricing, valued};
+ghost use Rattle.valuation.specs.Inverse.{Bounded, nominalWithin};
 use answers::CodedValue;
 use answers::OUT_OF_RANGE;
 
