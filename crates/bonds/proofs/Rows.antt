@@ -11,8 +11,8 @@ use Rattle.book.specs.Layout.{inUse, exposureBaskets, exposureAmounts}
 use Rattle.book.specs.State.{state}
 use Rattle.book.proofs.Images.{state-fits}
 use Rattle.rules.specs.Stock.{basketOf, positionOf}
-use Rattle.facts.proofs.Facts.{Sound, sound-facts}
-use Rattle.facts.proofs.Keeps.{Good}
+use Rattle.facts.proofs.Written.{sound-facts}
+use Rattle.facts.specs.Good.{Sound, Good}
 use Rattle.facts.proofs.Rows.{Exposure, used-exposure}
 use Rattle.facts.proofs.Stock.{columns-bounded, age-le, position-within}
 use Rattle.bonds.specs.Moves.{SoundBook}

@@ -9,7 +9,7 @@ use lib.ListN.{getD}
 use Rattle.laws.specs.Filled.{filled}
 use Rattle.laws.specs.Lists.{every}
 use Rattle.laws.specs.Numbers.{numberAt, bytesOf}
-use Rattle.book.specs.Layout.{rowsOf, widthOf, placeOf, tableCount, lots}
+use Rattle.book.specs.Layout.{rowsOf, widthOf, placeOf, tableCount, securityTables}
 
 -- the number in the row i of the table f
 abbrev pub State : Type 0
@@ -75,7 +75,7 @@ pub record Lowerable (s : State) (f start : ℕ) (by : List ℕ) : Type 0 where
 
 -- the securities' four columns of 64 numbers: lots, prices, haircuts, quote days
 abbrev pub columnsOf : State → List ℕ
-columnsOf s = filled (λ k. s (lots + k / 64) (k % 64)) 256 256
+columnsOf s = filled (λ k. s (getD securityTables (k / 64) 0) (k % 64)) 256 256
 
 -- the numbers fit their bytes, and rows that the layout does not have are 0
 pub record Fits (s : State) : Type 0 where

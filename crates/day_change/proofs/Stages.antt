@@ -16,8 +16,8 @@ use Rattle.rules.specs.Codes.{nextDayRules}
 use Rattle.rules.specs.DayChange.{rowsDropped, isDone, onNextDay, isClosedFop, exposuresClosed, isClosedReturn, exposuresFreed, nextDay}
 use Rattle.rules.specs.Outcome.{lowest}
 use Rattle.rules.specs.Sound.{sound}
-use Rattle.facts.proofs.Facts.{sound-facts, facts-sound}
-use Rattle.facts.proofs.Keeps.{Good}
+use Rattle.facts.proofs.Written.{sound-facts, facts-sound}
+use Rattle.facts.specs.Good.{Good}
 use Rattle.totals.specs.Totals.{totalsOf}
 use Rattle.totals.specs.declared.Totals.{Totals}
 use Rattle.day_laws.proofs.NextDay.{doneDropped, dayBegun, fopsDropped, closingsDone, day-of-call, day-begun, done-dropped-good, day-begun-good, fops-dropped-good, closings-done-good}

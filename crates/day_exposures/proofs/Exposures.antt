@@ -12,7 +12,7 @@ use Rattle.book.specs.Layout.{inUse}
 use Rattle.book.specs.State.{State}
 use Rattle.rules.specs.DayChange.{onEach, isExposureClosed, exposureClosed, isIdle, exposureFreed}
 use Rattle.rules.specs.Stock.{positionOf}
-use Rattle.facts.proofs.Facts.{Sound}
+use Rattle.facts.specs.Good.{Sound}
 use Rattle.facts.proofs.Rows.{used-exposure}
 use Rattle.facts.proofs.Stock.{position-at}
 use Rattle.bond_laws.proofs.Moving.{giveBack-raisable}

@@ -16,8 +16,7 @@ use Rattle.book.specs.Layout.{numbers, requestKinds, givers, takers, basketsOrE
 use Rattle.book.specs.State.{State}
 use Rattle.rules.specs.DayChange.{belongs, isIdle, exposureFreed, onEach}
 use Rattle.rules.specs.Requests.{isUsed, isFop, isPaired, hasKey}
-use Rattle.facts.proofs.Facts.{all-of}
-use Rattle.facts.proofs.Truth.{split}
+use Rattle.facts.proofs.Truth.{split, all-of}
 use Rattle.exposure_search.specs.Keys.{keySlot}
 use Rattle.exposure_search.specs.Slots.{slotOf}
 use Rattle.day_laws.proofs.Each.{each-keeps}

@@ -11,7 +11,7 @@ use Rattle.book.specs.Layout.{inUse, exposureClosings, exposureAmounts}
 use Rattle.book.specs.State.{State}
 use Rattle.rules.specs.DayChange.{onEach, isReached, isExposureClosed, exposureClosed, exposuresClosed}
 use Rattle.rules.specs.Stock.{positionOf, giveBack, holding}
-use Rattle.facts.proofs.Keeps.{Good}
+use Rattle.facts.specs.Good.{Good}
 use Rattle.facts.proofs.Stock.{position-at}
 use Rattle.facts.proofs.Truth.{split}
 use Rattle.bond_laws.proofs.Keeping.{good-giveBack, good-amount}

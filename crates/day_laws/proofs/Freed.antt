@@ -17,11 +17,10 @@ use Rattle.rules.specs.DayChange.{belongs, isIdle, exposureFreed, exposuresFree
 use Rattle.rules.specs.Requests.{isUsed, isFop, isReturn, isPaired, hasKey, exposureOfFop}
 use Rattle.rules.specs.Stock.{positionFrom, holding}
 use Rattle.rules.specs.ByRow.{soundKind, soundPaired, soundRow, soundExposure, otherKey, distinctKey, soundPosition}
-use Rattle.facts.proofs.Facts.{Sound, all-of, below}
-use Rattle.facts.proofs.Keeps.{Good}
+use Rattle.facts.specs.Good.{Sound, Good}
 use Rattle.facts.proofs.Rows.{Kind, fop, return, used-fields, no-exposure-sound, position-facts}
 use Rattle.facts.proofs.Searches.{least-same}
-use Rattle.facts.proofs.Truth.{Each, split}
+use Rattle.facts.proofs.Truth.{Each, split, all-of, below}
 use Rattle.day_laws.proofs.Remade.{remade, cleared-fits, among, stored-row, passed, turns-remade}
 
 -- a choice between one number and itself

@@ -12,7 +12,8 @@ use Rattle.rules.specs.Codes.{nextDayRules}
 use Rattle.rules.specs.DayChange.{rowsDropped, isDone, onNextDay, isClosedFop, isExposureClosed, exposuresClosed, isClosedReturn, closingEvents, nextDay}
 use Rattle.rules.specs.Outcome.{lowest}
 use Rattle.rules.specs.Stock.{holding}
-use Rattle.facts.proofs.Keeps.{Good, Amounts, Keeps}
+use Rattle.facts.proofs.Keeps.{Amounts, Keeps}
+use Rattle.facts.specs.Good.{Good}
 use Rattle.facts.proofs.Sums.{Sums, allNoted}
 use Rattle.day_laws.proofs.Closed.{Closing, exposures-closed, exposures-closed-amount}
 use Rattle.day_laws.proofs.Freed.{exposures-freed-good, exposures-freed-holding, exposures-freed-amount}

@@ -20,8 +20,7 @@ use Rattle.rules.specs.DayChange.{changeTakesEffect, profilesChanged, onNextDay
 use Rattle.rules.specs.Outcome.{lowest}
 use Rattle.rules.specs.ByRow.{soundProfile, soundParticipant, soundRow, soundExposure}
 use Rattle.rules.specs.Stock.{participantSetUp, holding}
-use Rattle.facts.proofs.Facts.{Sound}
-use Rattle.facts.proofs.Keeps.{Good}
+use Rattle.facts.specs.Good.{Sound, Good}
 use Rattle.facts.proofs.Rows.{head-facts, facts-head}
 use Rattle.facts.proofs.Searches.{least-holds}
 use Rattle.facts.proofs.Truth.{Each, split}

@@ -16,8 +16,8 @@ use Rattle.rules.specs.DayChange.{rowDropped, rowsDropped, isDone, isClosedFop,
 use Rattle.rules.specs.Requests.{isUsed, isPaired, partnerOf}
 use Rattle.rules.specs.Stock.{holding}
 use Rattle.rules.specs.ByRow.{soundRow, differs, distinctNumber}
-use Rattle.facts.proofs.Facts.{Sound, all-of, below}
-use Rattle.facts.proofs.Keeps.{Good}
+use Rattle.facts.proofs.Truth.{all-of, below}
+use Rattle.facts.specs.Good.{Sound, Good}
 use Rattle.facts.proofs.Rows.{Pair, unused-blank, used-paired}
 use Rattle.day_laws.proofs.Remade.{remade, cleared-fits, among, stored-row, passed, turns-remade}
 

@@ -13,7 +13,7 @@ use Rattle.book.specs.Layout.{numbers, requestKinds, basketsOrExposures}
 use Rattle.book.specs.State.{State, put}
 use Rattle.rules.specs.DayChange.{rowDropped, onEach}
 use Rattle.rules.specs.Requests.{isUsed}
-use Rattle.facts.proofs.Facts.{Sound}
+use Rattle.facts.specs.Good.{Sound}
 use Rattle.facts.proofs.Rows.{Kind, fop, return, used-fields, unused-blank}
 use Rattle.row_tests.specs.Rows.{InRows}
 use Rattle.row_tests.proofs.InRows.{in-rows}

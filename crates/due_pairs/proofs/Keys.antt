@@ -14,7 +14,7 @@ use Rattle.laws.proofs.Cases.{and-left, or-left}
 use Rattle.calendar.specs.Target.{lastDay, openDay}
 use Rattle.book.specs.Layout.{requestKinds, settlements}
 use Rattle.book.specs.State.{State}
-use Rattle.facts.proofs.Keeps.{Good}
+use Rattle.facts.specs.Good.{Good}
 use Rattle.facts.proofs.Rows.{head-facts, used-fields}
 use Rattle.rules.specs.Requests.{isUsed}
 use Rattle.rules.specs.Settlement.{orderOf, isDue}

@@ -14,7 +14,7 @@ use Rattle.laws.specs.Search.{leastBy}
 use Rattle.laws.proofs.Cases.{either, and-left}
 use Rattle.book.specs.Layout.{requestKinds}
 use Rattle.book.specs.State.{State}
-use Rattle.facts.proofs.Keeps.{Good}
+use Rattle.facts.specs.Good.{Good}
 use Rattle.facts.proofs.Searches.{found-by}
 use Rattle.rules.specs.Settlement.{orderOf, isDue, nextDue}
 use Rattle.due_pairs.specs.Due.{duePair, keyOf, noKey, keysOf, Collected, lesserFrom, leastFrom}

@@ -12,7 +12,7 @@ use Rattle.book.specs.Layout.{today, numbers, requestKinds, amounts, settlement
 use Rattle.book.specs.State.{State}
 use Rattle.rules.specs.Requests.{isUsed, isPaired, isLive, partnerOf}
 use Rattle.rules.specs.Settlement.{orderOf, isDue}
-use Rattle.facts.proofs.Keeps.{Good}
+use Rattle.facts.specs.Good.{Good}
 use Rattle.facts.proofs.Rows.{used-paired}
 use Rattle.due_pairs.specs.Due.{duePair}
 

@@ -4,7 +4,7 @@ ghost use Prim.Native.Nat.{_+_, _<_, _≤_};
 ghost use lib.ListN.{length, take};
 ghost use Rattle.book.specs.Layout.{bookLength};
 ghost use Rattle.book.specs.State.{state};
-ghost use Rattle.facts.proofs.Keeps.{Good};
+ghost use Rattle.facts.specs.Good.{Good};
 ghost use Rattle.rules.specs.Settlement.{orderOf, isDue};
 ghost use Rattle.due_pairs.specs.Due.{duePair, noKey, Collected, lesserFrom, leastFrom};
 use book::layout::AMOUNTS;

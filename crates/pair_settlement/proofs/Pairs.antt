@@ -11,10 +11,10 @@ use Rattle.book.specs.Layout.{requestKinds, amounts, settledAmounts, partners, 
 use Rattle.book.specs.State.{State, put, columnsOf}
 use Rattle.rules.specs.Requests.{isPaired, restOf, exposureOfFop}
 use Rattle.rules.specs.Settlement.{bothSettled}
-use Rattle.facts.proofs.Keeps.{Good}
+use Rattle.facts.specs.Good.{Good}
 use Rattle.facts.proofs.Rows.{Fields, Kind, fop, return, Return, Paired, used-fields, used-paired, used-exposure}
 use Rattle.settlement_laws.proofs.Settling.{return-names, fop-below}
-use Rattle.eligibility.proofs.Fresh.{columns-same}
+use Rattle.facts.proofs.Stock.{columns-same}
 use Rattle.bonds.specs.Moves.{Pledging, Freeable}
 use Rattle.pair_settlement.specs.Pairs.{PairOf, Settleable}
 

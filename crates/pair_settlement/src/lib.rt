@@ -5,7 +5,7 @@ ghost use lib.ListN.{length};
 ghost use Rattle.eligibility.specs.Fresh.{FreshBaskets};
 ghost use Rattle.book.specs.Layout.{settledAmounts, amounts, exposureAmounts, bookLength};
 ghost use Rattle.book.specs.State.{state, put, columnsOf};
-ghost use Rattle.facts.proofs.Keeps.{Good};
+ghost use Rattle.facts.specs.Good.{Good};
 ghost use Rattle.rules.specs.Requests.{restOf, exposureOfFop};
 ghost use Rattle.rules.specs.Settlement.{bothSettled, returnAmount, fopAmount};
 ghost use Rattle.pair_settlement.specs.Pairs.{PairOf, Settleable, amountFor, returnLeft, fopLeft};

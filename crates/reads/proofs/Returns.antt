@@ -21,7 +21,7 @@ use Rattle.rules.specs.Outcome.{lowest}
 use Rattle.rules.specs.Reads.{Read, account, position, exposure, request, basket, rowOf, partnerNumber, readRules, readCode, readValues, readAnswer}
 use Rattle.rules.specs.Requests.{isUsed, isPaired}
 use Rattle.rules.specs.Sound.{sound}
-use Rattle.facts.proofs.Facts.{sound-facts}
+use Rattle.facts.proofs.Written.{sound-facts}
 use Rattle.facts.proofs.Rows.{used-paired, unused-blank}
 use Rattle.reads.specs.Entries.{damageCode, requestNumber}
 

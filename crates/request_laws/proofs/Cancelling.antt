@@ -21,7 +21,8 @@ use Rattle.rules.specs.Fields.{field}
 use Rattle.rules.specs.Requests.{isUsed, isPaired, partnerOf}
 use Rattle.rules.specs.Requesting.{ownRequest, pairEnds, cancelled}
 use Rattle.rules.specs.ByRow.{soundRow}
-use Rattle.facts.proofs.Keeps.{Good, Keeps}
+use Rattle.facts.proofs.Keeps.{Keeps}
+use Rattle.facts.specs.Good.{Good}
 use Rattle.facts.proofs.Rows.{Pair, head-facts, used-fields, unused-blank}
 use Rattle.facts.proofs.Rules.{none-applies}
 use Rattle.request_laws.proofs.Covering.{Covers, isTouched, tables-differ, distinct-facts, rows-cover, rows-keep}

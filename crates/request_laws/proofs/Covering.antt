@@ -17,8 +17,9 @@ use Rattle.rules.specs.Outcome.{Step, Event}
 use Rattle.rules.specs.Requests.{exposureWith}
 use Rattle.rules.specs.Stock.{holding}
 use Rattle.rules.specs.ByRow.{soundRow, differs, distinctNumber}
-use Rattle.facts.proofs.Facts.{Sound, all-of}
-use Rattle.facts.proofs.Keeps.{Good, Keeps}
+use Rattle.facts.specs.Good.{Sound, Good}
+use Rattle.facts.proofs.Truth.{all-of}
+use Rattle.facts.proofs.Keeps.{Keeps}
 use Rattle.facts.proofs.Rows.{Parties, head-facts, facts-head}
 use Rattle.facts.proofs.Sums.{allNoted}
 use Rattle.request_laws.proofs.Finding.{has-key, key-facts, exposure-passes, exposure-found}

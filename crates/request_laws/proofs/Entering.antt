@@ -17,7 +17,8 @@ use Rattle.rules.specs.Outcome.{Event, lowest, given}
 use Rattle.rules.specs.Requests.{hasKey, freeExposure}
 use Rattle.rules.specs.Requesting.{pairsNow, exposureOf, needsExposure, exposureGiven, rowsEntered, pairedWith, entered}
 use Rattle.rules.specs.Fields.{giverIn, takerIn, basketOrExposureIn, closingIn}
-use Rattle.facts.proofs.Keeps.{Good, Keeps}
+use Rattle.facts.proofs.Keeps.{Keeps}
+use Rattle.facts.specs.Good.{Good}
 use Rattle.facts.proofs.Searches.{least-le}
 use Rattle.facts.proofs.Sums.{allNoted}
 use Rattle.request_laws.proofs.Accepting.{fop-names, fop-request, fop-room, fop-exposure, return-request, return-room}

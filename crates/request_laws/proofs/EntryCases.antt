@@ -17,7 +17,8 @@ use Rattle.book.proofs.Images.{put-apart}
 use Rattle.rules.specs.Requests.{isUsed, isPaired, isWhole, isLive, allowPartial, freeRow}
 use Rattle.rules.specs.Requesting.{takerFollows, isEqual, earliestEqual, pairsNow, rowsNeeded, partialMark, withRow, withTaker, withEqual, waiting, rowsEntered}
 use Rattle.rules.specs.Fields.{sideIn, giverIn, takerIn, basketOrExposureIn, amountIn, settlementIn, closingIn}
-use Rattle.facts.proofs.Keeps.{Good, Keeps}
+use Rattle.facts.proofs.Keeps.{Keeps}
+use Rattle.facts.specs.Good.{Good}
 use Rattle.rules.specs.ByRow.{soundRow}
 use Rattle.facts.proofs.Rows.{Fields, head-facts, used-fields, used-unpaired, unused-blank}
 use Rattle.facts.proofs.Truth.{split}

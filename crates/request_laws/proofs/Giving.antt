@@ -13,19 +13,20 @@ use Rattle.laws.specs.Search.{all}
 use Rattle.laws.proofs.Cases.{either, and-right}
 use Rattle.laws.proofs.Least.{all-at}
 use Rattle.laws.proofs.Sum.{sum-same}
-use Rattle.book.specs.Layout.{numbers, ends, inUse, exposureGivers, exposureTakers, exposureBaskets, exposureClosings, exposureAmounts, positions}
-use Rattle.book.specs.State.{State}
+use Rattle.book.specs.Layout.{numbers, ends, inUse, exposureGivers, exposureTakers, exposureBaskets, exposureClosings, exposureAmounts, positions, keyTables}
+use Rattle.book.specs.State.{State, rowsAlike}
+use Rattle.book.proofs.Tables.{every-from}
 use Rattle.facts.proofs.Sums.{Sums, allNoted}
 use Rattle.rules.specs.Outcome.{given}
 use Rattle.rules.specs.Requests.{partnerOf}
 use Rattle.rules.specs.Requesting.{exposureOf, exposureGiven}
 use Rattle.rules.specs.Fields.{giverIn, takerIn, basketOrExposureIn, closingIn}
 use Rattle.rules.specs.Stock.{holding, positionFrom}
-use Rattle.rules.specs.ByRow.{soundExposure, soundRow, soundPosition, same, alike, otherKey, distinctKey}
-use Rattle.facts.proofs.Facts.{all-of}
-use Rattle.facts.proofs.Keeps.{Good, Keeps, Amounts}
+use Rattle.rules.specs.ByRow.{soundExposure, soundRow, soundPosition, same, otherKey, distinctKey}
+use Rattle.facts.specs.Good.{Good}
+use Rattle.facts.proofs.Keeps.{Keeps, Amounts}
 use Rattle.facts.proofs.Rows.{Stocked, exposure-sound, used-or-not, position-facts, position-none}
-use Rattle.facts.proofs.Truth.{split}
+use Rattle.facts.proofs.Truth.{split, all-of}
 use Rattle.request_laws.proofs.Covering.{Covers, isRowTable, leaving, parties-kept}
 use Rattle.request_laws.proofs.Entries.{FopIn, fopIn, RequestIn}
 use Rattle.request_laws.proofs.Finding.{has-key, exposure-found, exposure-none}
@@ -51,12 +52,12 @@ SameKey t d c = (f : ℕ) → exposureGivers ≤ f → f < exposureGivers + 4 �
 module _ (t : State) (d c : ℕ) where
   other-key : (t inUse c ≡ 1 → SameKey t d c → ⊥) → otherKey t d c ≡ true
   other-key never =
-      let both = eqb (t inUse c) 1 ∷ alike t 4 exposureGivers d c ∷ [] in
+      let both = eqb (t inUse c) 1 ∷ rowsAlike t keyTables d c ∷ [] in
       ⊎-elim
       (λ z. let k = split both z in
-      absurd (never (eqb-true (t inUse c) 1 (k .0)) (λ f g l. eqb-true (t f d) (t f c) (all-at (λ f. same t f d c) 4 exposureGivers (k .1) f g l))))
+      absurd (never (eqb-true (t inUse c) 1 (k .0)) (λ f g l. eqb-true (t f d) (t f c) (all-at (λ f. same t f d c) 4 exposureGivers (sym (every-from (λ f. same t f d c) 4 exposureGivers) ∙ k .1) f g l))))
       (λ z. rw z)
-      (either (eqb (t inUse c) 1 && alike t 4 exposureGivers d c))
+      (either (eqb (t inUse c) 1 && rowsAlike t keyTables d c))
 
 same-key : (s t : State) (d c : ℕ) → ((f : ℕ) → t f d ≡ s f d) → ((f : ℕ) → t f c ≡ s f c) → otherKey t d c ≡ otherKey s d c
 same-key s t d c p q = simp (p, q)

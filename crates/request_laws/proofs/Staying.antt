@@ -13,7 +13,7 @@ use Rattle.book.specs.Layout.{numbers, requestKinds, sides, givers, takers, bas
 use Rattle.book.specs.State.{State}
 use Rattle.rules.specs.Requests.{isUsed, isReturn, isPaired, partnerOf, exposureOfFop}
 use Rattle.rules.specs.ByRow.{soundRow}
-use Rattle.facts.proofs.Facts.{Sound}
+use Rattle.facts.specs.Good.{Sound}
 use Rattle.facts.proofs.Rows.{Fop, Return, Kind, fop, return, Fields, Pair, used-fields, used-paired, used-unpaired, unused-blank, paired-sound, unpaired-sound, blank-sound}
 use Rattle.facts.proofs.Truth.{split, join}
 use Rattle.request_laws.proofs.Covering.{Covers, isRowTable, parties-kept, key-kept}

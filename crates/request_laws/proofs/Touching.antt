@@ -17,7 +17,8 @@ use Rattle.rules.specs.Requesting.{withRow}
 use Rattle.rules.specs.Fields.{giverIn, takerIn, basketOrExposureIn, amountIn, settlementIn, closingIn, referenceIn}
 use Rattle.rules.specs.Requests.{partnerOf}
 use Rattle.rules.specs.ByRow.{soundRow}
-use Rattle.facts.proofs.Keeps.{Good, Keeps}
+use Rattle.facts.proofs.Keeps.{Keeps}
+use Rattle.facts.specs.Good.{Good}
 use Rattle.request_laws.proofs.Covering.{Covers, Distinct, isRowTable, isTouched, tables-differ, leaving, rows-cover, rows-keep}
 use Rattle.request_laws.proofs.Entries.{KindIn, fopIn, returnIn, RequestIn}
 use Rattle.request_laws.proofs.Staying.{SameRow, same-row, partner-paired}

@@ -11,7 +11,7 @@ use borrow.Author.Tests.{eqb-false, ne-eqb, ltb-false}
 use Rattle.laws.proofs.Cases.{clash, or-left, or-right}
 use Rattle.book.specs.Layout.{nextNumber, numbers, partners, inUse}
 use Rattle.book.specs.State.{State, put}
-use Rattle.facts.proofs.Facts.{sound-facts}
+use Rattle.facts.proofs.Written.{sound-facts}
 use Rattle.facts.proofs.Rows.{used-fields, used-paired}
 use Rattle.facts.proofs.Rules.{no-rule}
 use Rattle.facts.proofs.Searches.{least-le, least-holds, count-finds, count-but-one}

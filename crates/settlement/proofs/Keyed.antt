@@ -8,7 +8,7 @@ use lib.ListN.{take}
 use Rattle.book.specs.State.{State}
 use Rattle.due_pairs.specs.Due.{noKey, Collected, leastFrom}
 use Rattle.due_pairs.proofs.Next.{none-left, next-row, next-order, next-fits}
-use Rattle.facts.proofs.Keeps.{Good}
+use Rattle.facts.specs.Good.{Good}
 use Rattle.rules.specs.Settlement.{nextDue, orderOf}
 use Rattle.settlement_laws.proofs.Staying.{Stays, stays-then, next-stays}
 use Rattle.settlement.specs.Passes.{begun, Alike, settleOf}

@@ -11,7 +11,7 @@ use Rattle.book.specs.Layout.{requestKinds}
 use Rattle.book.specs.State.{State}
 use Rattle.rules.specs.Settlement.{Settling, returnAmount, fopAmount, returnSettled, fopSettled, settleReturn, settleFop, settleAll, settlement, allSettled, nextDue, orderOf}
 use Rattle.laws.proofs.Cases.{either}
-use Rattle.facts.proofs.Keeps.{Good}
+use Rattle.facts.specs.Good.{Good}
 use Rattle.totals.specs.declared.Totals.{Totals}
 use Rattle.totals.specs.Totals.{totalsOf}
 use Rattle.eligibility.specs.Fresh.{SamePrices}

@@ -8,7 +8,7 @@ use Prim.Native.Nat.{ℕ, _+_, _*_, _≤_}
 use lib.Dec.{eqb}
 use Rattle.eligibility.specs.Fresh.{SamePrices}
 use Rattle.book.specs.State.{State}
-use Rattle.facts.proofs.Keeps.{Good}
+use Rattle.facts.specs.Good.{Good}
 use Rattle.rules.specs.Settlement.{Settling, settleReturn, settleFop, settleAll}
 use Rattle.totals.specs.declared.Totals.{Totals}
 

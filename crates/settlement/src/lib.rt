@@ -5,7 +5,7 @@ ghost use lib.ListN.{length};
 ghost use Rattle.eligibility.specs.Fresh.{FreshBaskets};
 ghost use Rattle.book.specs.Layout.{bookLength};
 ghost use Rattle.book.specs.State.{state, columnsOf};
-ghost use Rattle.facts.proofs.Keeps.{Good};
+ghost use Rattle.facts.specs.Good.{Good};
 ghost use Rattle.pair_settlement.specs.Pairs.{PairOf};
 ghost use Rattle.rules.specs.Settlement.{settlement};
 ghost use Rattle.rules.specs.Sound.{sound};

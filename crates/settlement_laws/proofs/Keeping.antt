@@ -16,7 +16,8 @@ use Rattle.rules.specs.Outcome.{settled, returned}
 use Rattle.rules.specs.Requests.{exposureOfFop}
 use Rattle.rules.specs.Settlement.{Settling, orderOf, nextDue, returnAmount, returnSettled, settleReturn, fopAmount, fopSettled, settleFop, settleAll, allSettled, settlement}
 use Rattle.rules.specs.Stock.{holding}
-use Rattle.facts.proofs.Keeps.{Good, Amounts, Keeps}
+use Rattle.facts.proofs.Keeps.{Amounts, Keeps}
+use Rattle.facts.specs.Good.{Good}
 use Rattle.settlement_laws.proofs.Finding.{Due, due-row}
 use Rattle.settlement_laws.proofs.Settling.{return-good, return-bonds, return-within, return-exposure, return-other, fop-good, fop-bonds, fop-exposure, fop-other}
 

@@ -17,7 +17,7 @@ use Rattle.rules.specs.Requests.{isUsed, isPaired, partnerOf, restOf}
 use Rattle.rules.specs.Settlement.{bothSettled}
 use Rattle.rules.specs.Stock.{holding}
 use Rattle.rules.specs.ByRow.{soundRow}
-use Rattle.facts.proofs.Keeps.{Good}
+use Rattle.facts.specs.Good.{Good}
 use Rattle.facts.proofs.Rows.{Fields, Kind, fop, return, Pair, used-fields, used-paired, used-unpaired, unused-blank, blank-sound}
 
 -- an amount of either kind is at most 10^12

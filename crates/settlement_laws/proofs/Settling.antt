@@ -16,7 +16,7 @@ use Rattle.book.proofs.Images.{put-same, put-other}
 use Rattle.rules.specs.Requests.{isUsed, isFop, isReturn, isPaired, restOf, exposureOfFop}
 use Rattle.rules.specs.Settlement.{bothSettled, returnAmount, returnSettled, found, fopAmount, fopSettled}
 use Rattle.rules.specs.Stock.{eligibleFor, pickFor, freeFor, holding}
-use Rattle.facts.proofs.Keeps.{Good}
+use Rattle.facts.specs.Good.{Good}
 use Rattle.facts.proofs.Rows.{Return, Kind, fop, return, used-fields, used-paired, used-exposure}
 use Rattle.bond_laws.proofs.Keeping.{giver-below, good-pledge, good-amount, good-lowered}
 use Rattle.bond_laws.proofs.Lots.{Pledgeable, pledge-lowerable, giveBack-lowerable, position-lots, pick-pledgeable, pick-value, free-returnable, free-all}

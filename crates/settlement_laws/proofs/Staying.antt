@@ -12,7 +12,7 @@ use Rattle.book.specs.Layout.{today, numbers, requestKinds, amounts, settlement
 use Rattle.book.specs.State.{State}
 use Rattle.rules.specs.Requests.{partnerOf}
 use Rattle.rules.specs.Settlement.{orderOf, isDue, nextDue, returnSettled, fopSettled}
-use Rattle.facts.proofs.Keeps.{Good}
+use Rattle.facts.specs.Good.{Good}
 use Rattle.facts.proofs.Rows.{used-paired}
 use Rattle.settlement_laws.proofs.Finding.{Due}
 

@@ -28,7 +28,8 @@ use Rattle.rules.specs.Fields.{field}
 use Rattle.rules.specs.SetUp.{emptyState, opened, priced, enrolled, basketMade, deposited, withdrawn}
 use Rattle.rules.specs.ByRow.{soundSecurity, soundProfile, soundParticipant, soundBasket, soundPosition}
 use Rattle.rules.specs.Stock.{participantSetUp, securitySetUp, holding}
-use Rattle.facts.proofs.Keeps.{Good, Keeps, Amounts}
+use Rattle.facts.proofs.Keeps.{Keeps, Amounts}
+use Rattle.facts.specs.Good.{Good}
 use Rattle.facts.proofs.Ranges.{field-in}
 use Rattle.facts.proofs.Rows.{position-facts, position-none, position-stocked}
 use Rattle.facts.proofs.Rules.{none-applies}

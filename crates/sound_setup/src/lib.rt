@@ -4,7 +4,7 @@ ghost use mathlib.Core.Path.{_≡_};
 ghost use Prim.Native.Nat.{_<_};
 ghost use lib.ListN.{length};
 ghost use Rattle.laws.specs.Search.{all, between};
-ghost use Rattle.book.specs.Layout.{bookLength};
+ghost use Rattle.book.specs.Layout.{bookLength, spares, rowsOf};
 ghost use Rattle.book.specs.State.{state};
 ghost use Rattle.rules.specs.ByRow.{soundHead, soundSecurity, soundProfile, soundParticipant, soundBasket, soundParties, basketNamed, isSpare};
 ghost use Rattle.open_days.specs.Days.{OpenDays};
@@ -188,7 +188,7 @@ pub fn are_sound_baskets(book: &[u8]) -> bool
 // The spare rows hold nothing.
 pub fn are_sound_spares(book: &[u8]) -> bool
     requires { ⌜ length (now book) ≡ bookLength ⌝ }
-    ensures { λ r. ⌜ r ≡ all (isSpare (state (now (book .entry)))) 589 0 ⌝ }
+    ensures { λ r. ⌜ r ≡ all (isSpare (state (now (book .entry)))) (rowsOf spares) 0 ⌝ }
 {
     row_tests::are_rows_empty(book, SPARES, 0, 589)
 }

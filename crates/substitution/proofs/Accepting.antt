@@ -26,8 +26,8 @@ use Rattle.rules.specs.Fields.{field}
 use Rattle.rules.specs.Stock.{basketOf, positionOf, valueOf}
 use Rattle.bonds.specs.Moves.{SoundBook}
 use Rattle.bonds.proofs.Rows.{good-of}
-use Rattle.facts.proofs.Facts.{Sound, sound-facts}
-use Rattle.facts.proofs.Keeps.{Good}
+use Rattle.facts.proofs.Written.{sound-facts}
+use Rattle.facts.specs.Good.{Sound, Good}
 use Rattle.facts.proofs.Rows.{used-exposure, head-facts}
 use Rattle.facts.proofs.Stock.{account-at, position-at, account-le, position-within, account-within}
 use Rattle.marking_laws.specs.Recalled.{added, accountAfter, positionLeft}

@@ -5,7 +5,7 @@ use native.Mathlib.Omega.{arith}
 use Rattle.calendar.specs.Target.{nextOpenDay}
 use Rattle.book.specs.State.{state}
 use Rattle.rules.specs.DayChange.{onNextDay}
-use Rattle.facts.proofs.Facts.{sound-facts}
+use Rattle.facts.proofs.Written.{sound-facts}
 use Rattle.facts.proofs.Stock.{today-le}
 use Rattle.day_laws.proofs.Profiles.{next-day-within}
 use borrow.Author.Needs.{needs}

@@ -10,8 +10,8 @@ use Rattle.book.specs.Layout.{bookLength}
 use Rattle.book.specs.State.{state}
 use Rattle.book.proofs.Images.{state-fits}
 use Rattle.rules.specs.DayChange.{onEach, isExposureClosed, exposureClosed, exposuresClosed}
-use Rattle.facts.proofs.Facts.{sound-facts}
-use Rattle.facts.proofs.Keeps.{Good}
+use Rattle.facts.proofs.Written.{sound-facts}
+use Rattle.facts.specs.Good.{Good}
 use Rattle.day_laws.proofs.Closed.{closing-turned}
 use Rattle.day_laws.proofs.Each.{no-turn}
 use Rattle.day_exposures.specs.Parts.{amountClosed}

@@ -9,7 +9,7 @@ use Rattle.laws.specs.Search.{count}
 use Rattle.laws.proofs.Least.{count-le, count-end}
 use Rattle.book.specs.Layout.{bookLength}
 use Rattle.book.specs.State.{state}
-use Rattle.facts.proofs.Facts.{sound-facts}
+use Rattle.facts.proofs.Written.{sound-facts}
 use Rattle.rules.specs.DayChange.{rowDropped, onEach, rowsDropped}
 use Rattle.day_laws.proofs.Each.{no-turn}
 use Rattle.day_rows.specs.Parts.{drops}

@@ -5,8 +5,8 @@ use native.Mathlib.Omega.{arith}
 use Rattle.eligibility.proofs.Fresh.{sound-aged, fresh-same}
 use Rattle.book.proofs.Images.{state-fits}
 use Rattle.book.specs.State.{state}
-use Rattle.facts.proofs.Facts.{sound-facts}
-use Rattle.facts.proofs.Keeps.{Good}
+use Rattle.facts.proofs.Written.{sound-facts}
+use Rattle.facts.specs.Good.{Good}
 use Rattle.settlement.proofs.Passes.{settled-state, settled-totals}
 use borrow.Author.Needs.{needs}
 use Rattle.settlement.proofs.settle.Statement.{statement}
