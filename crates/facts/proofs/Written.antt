@@ -1,23 +1,22 @@
 -- Document 01's sentence as facts of rows, and back: so the code's tests say the same as the paper (`by-row`).
 -- Assumes nothing.
-use mathlib.Core.Path.{_≡_, sym, _∙_}
+use mathlib.Core.Path.{_≡_}
 use mathlib.Core.Bool.{Bool, true, false, not, _&&_, _||_, cond, or-true}
 use mathlib.Core.List.{List, [], _∷_, _++_}
 use mathlib.Core.Logic.{_⊎_, inl, inr, ⊎-elim}
-use Prim.Native.Nat.{ℕ, suc, _+_, _*_, _%_, _≤_, _<_}
+use Prim.Native.Nat.{ℕ, suc, _+_, _%_, _≤_, _<_}
 use native.Mathlib.Omega.{arith}
 use lib.Dec.{eqb, leb, ltb}
 use borrow.Author.Tests.{leb-true, le-leb, ltb-true, lt-ltb, eqb-true, eqb-false, eq-eqb, ne-eqb, not-true, not-false}
 use Rattle.laws.specs.Search.{all, between, ofEach}
 use Rattle.laws.proofs.Cases.{and-left, and-right, either, clash, or-cases}
 use Rattle.calendar.specs.Target.{openDay}
-use Rattle.book.specs.Layout.{today, tolerance, nextNumber, lots, prices, haircuts, quoteDays, modes, lists, partials, waitingModes, waitingLists, waitingPartials, maps, greatestAges, numbers, requestKinds, sides, givers, takers, basketsOrExposures, amounts, settlements, closings, settledAmounts, partners, pairPartials, cancels, ends, inUse, exposureGivers, exposureTakers, exposureBaskets, exposureClosings, exposureAmounts, positions, spares, securityTables, profileTables, waitingTables, basketTables, termTables, requestTables, keyTables, exposureTables, rowsOf}
+use Rattle.book.specs.Layout.{today, tolerance, nextNumber, lots, prices, haircuts, quoteDays, modes, lists, partials, waitingModes, waitingLists, waitingPartials, maps, greatestAges, numbers, requestKinds, sides, givers, takers, basketsOrExposures, amounts, settlements, closings, settledAmounts, partners, pairPartials, cancels, ends, inUse, exposureGivers, exposureTakers, exposureBaskets, exposureClosings, exposureAmounts, spares, securityTables, profileTables, waitingTables, basketTables, termTables, requestTables, exposureTables, rowsOf}
 use Rattle.book.specs.State.{State, rowsAlike, rowBlank}
-use Rattle.rules.specs.Fields.{storedMode}
-use Rattle.rules.specs.Requests.{isUsed, isFop, isReturn, isPaired, partnerOf, openOrNone, isInUse, isExposureOf, exposureOfFop}
-use Rattle.rules.specs.Sound.{daysOpen, priceInRange, participantInRange, fopInRange, returnInRange, requestInRange, exposureInRange, fieldsInRange, numbersDistinct, pairAgrees, pairsAgree, settledWithin, partiesSetUp, namedSetUp, fopPairsBelong, returnsName, exposuresWithin, keysDistinct, positionIn, positionStands, positionsStand, positionsCover, holdingsWithin, soundAsWritten, sound}
+use Rattle.rules.specs.Requests.{isUsed, isFop, isReturn, isPaired, partnerOf, openOrNone, isInUse, exposureOfFop}
+use Rattle.rules.specs.Sound.{daysOpen, priceInRange, participantInRange, fopInRange, returnInRange, requestInRange, exposureInRange, fieldsInRange, numbersDistinct, pairsAgree, settledWithin, partiesSetUp, namedSetUp, fopPairsBelong, returnsName, exposuresWithin, keysDistinct, positionIn, positionStands, positionsStand, zeroHasNoPosition, holdingsWithin, soundAsWritten, sound}
 use Rattle.rules.specs.SoundLayout.{blankUnless, changeWaits, unusedBlank, marksAgree, soundLayout}
-use Rattle.rules.specs.ByRow.{soundHead, soundSecurity, soundProfile, soundParticipant, soundBasket, same, soundRow, differs, distinctNumber, soundExposure, otherKey, distinctKey, soundPosition, soundByRow}
+use Rattle.rules.specs.ByRow.{soundHead, soundSecurity, soundProfile, soundParticipant, soundBasket, same, soundRow, differs, distinctNumber, soundExposure, distinctKey, soundPosition, soundByRow}
 use Rattle.rules.specs.Stock.{participantSetUp, securitySetUp, basketSetUp, holding}
 use Rattle.facts.specs.Good.{Sound}
 use Rattle.facts.proofs.Facts.{by-row-facts, facts-by-row}
@@ -26,23 +25,8 @@ use Rattle.facts.proofs.Truth.{Each, split, join, parts, whole, cond-th
 
 -- the clauses of one row, and the lists of them that the sentence and the layout join
 module _ (s : State) where
-  abbrev quoteOpen : ℕ → Bool
-  quoteOpen i = openDay (s quoteDays i)
-
-  abbrev requestOpen : ℕ → Bool
-  requestOpen i = openDay (s settlements i) && openOrNone (s closings i)
-
-  abbrev closingOpen : ℕ → Bool
-  closingOpen e = openOrNone (s exposureClosings e)
-
   abbrev ageInRange : ℕ → Bool
   ageInRange b = leb (s greatestAges b) 255
-
-  abbrev numberFits : ℕ → Bool
-  numberFits i = ltb (s numbers i) (s nextNumber 0) && all (differs s i) i 0
-
-  abbrev agrees : ℕ → Bool
-  agrees i = pairAgrees s i (partnerOf s i)
 
   abbrev settledFits : ℕ → Bool
   settledFits i = leb (s settledAmounts i) (s amounts i) && (isPaired s i || eqb (s settledAmounts i) 0)
@@ -50,26 +34,8 @@ module _ (s : State) where
   abbrev partiesKnown : ℕ → Bool
   partiesKnown i = partiesSetUp s (s givers i) (s takers i)
 
-  abbrev basketKnown : ℕ → Bool
-  basketKnown i = basketSetUp s (s basketsOrExposures i)
-
-  abbrev exposureKnown : ℕ → Bool
-  exposureKnown e = partiesSetUp s (s exposureGivers e) (s exposureTakers e) && basketSetUp s (s exposureBaskets e)
-
   abbrev isFopPair : ℕ → Bool
   isFopPair i = isFop s i && isPaired s i
-
-  abbrev belongs : ℕ → Bool
-  belongs i = ltb (exposureOfFop s i) 64
-
-  abbrev names : ℕ → Bool
-  names i = isExposureOf s (s givers i) (s takers i) (s basketsOrExposures i)
-
-  abbrev amountFits : ℕ → Bool
-  amountFits e = leb (s exposureAmounts e) 10000000000000
-
-  abbrev keyDiffers : ℕ → Bool
-  keyDiffers e = all (otherKey s e) e 0
 
   abbrev holds : ℕ → ℕ → Bool
   holds e i = not (eqb (positionIn s e i) 0)
@@ -79,9 +45,6 @@ module _ (s : State) where
 
   abbrev noPosition : ℕ → ℕ → Bool
   noPosition e i = eqb (positionIn s e i) 0
-
-  abbrev holdingFits : ℕ → ℕ → Bool
-  holdingFits p i = leb (holding s p i) 500000000
 
   abbrev noClosing : ℕ → Bool
   noClosing i = eqb (s closings i) 0
@@ -93,16 +56,10 @@ module _ (s : State) where
   partialFits i = cond (isPaired s i) (eqb (s pairPartials i) (s pairPartials (partnerOf s i))) (eqb (s pairPartials i) 0)
 
   abbrev dayTests : List Bool
-  dayTests = ofEach 64 (securitySetUp s) quoteOpen ∷ ofEach 256 (isUsed s) requestOpen ∷ ofEach 64 (isInUse s) closingOpen ∷ []
+  dayTests = ofEach 64 (securitySetUp s) (λ i. openDay (s quoteDays i)) ∷ ofEach 256 (isUsed s) (λ i. openDay (s settlements i) && openOrNone (s closings i)) ∷ ofEach 64 (isInUse s) (λ e. openOrNone (s exposureClosings e)) ∷ []
 
   abbrev rangeTests : List Bool
-  rangeTests =
-      ofEach 64 (securitySetUp s) (priceInRange s)
-      ∷ all (participantInRange s) 32 0
-      ∷ all ageInRange 16 0
-      ∷ ofEach 256 (isUsed s) (requestInRange s)
-      ∷ ofEach 64 (isInUse s) (exposureInRange s)
-      ∷ []
+  rangeTests = ofEach 64 (securitySetUp s) (priceInRange s) ∷ all (participantInRange s) 32 0 ∷ all ageInRange 16 0 ∷ ofEach 256 (isUsed s) (requestInRange s) ∷ ofEach 64 (isInUse s) (exposureInRange s) ∷ []
 
   abbrev priceTests : ℕ → List Bool
   priceTests i = between 1 3000000 (s prices i) ∷ leb (s haircuts i) 9999 ∷ []
@@ -126,52 +83,22 @@ module _ (s : State) where
   pairTests i j = eqb (s partners j) (i + 1) ∷ eqb (s sides i + s sides j) 1 ∷ rowsAlike s (requestKinds ∷ (termTables ++ (settledAmounts ∷ ends ∷ []))) i j ∷ []
 
   abbrev alikeTests : ℕ → ℕ → List Bool
-  alikeTests i j =
-      same s requestKinds i j
-      ∷ same s givers i j
-      ∷ same s takers i j
-      ∷ same s basketsOrExposures i j
-      ∷ same s amounts i j
-      ∷ same s settlements i j
-      ∷ same s closings i j
-      ∷ same s settledAmounts i j
-      ∷ same s ends i j
-      ∷ []
+  alikeTests i j = same s requestKinds i j ∷ same s givers i j ∷ same s takers i j ∷ same s basketsOrExposures i j ∷ same s amounts i j ∷ same s settlements i j ∷ same s closings i j ∷ same s settledAmounts i j ∷ same s ends i j ∷ []
 
   abbrev partyTests : ℕ → ℕ → List Bool
   partyTests giver taker = participantSetUp s taker ∷ not (eqb giver taker) ∷ []
 
   abbrev namedTests : List Bool
-  namedTests = ofEach 256 (isFop s) basketKnown ∷ ofEach 64 (isInUse s) exposureKnown ∷ []
+  namedTests = ofEach 256 (isFop s) (λ i. basketSetUp s (s basketsOrExposures i)) ∷ ofEach 64 (isInUse s) (λ e. partiesSetUp s (s exposureGivers e) (s exposureTakers e) && basketSetUp s (s exposureBaskets e)) ∷ []
 
   abbrev standTests : ℕ → ℕ → List Bool
   standTests e i = securitySetUp s i ∷ eqb (positionIn s e i % s lots i) 0 ∷ []
 
   abbrev sentenceTests : List Bool
-  sentenceTests =
-      fieldsInRange s
-      ∷ numbersDistinct s
-      ∷ pairsAgree s
-      ∷ settledWithin s
-      ∷ namedSetUp s
-      ∷ fopPairsBelong s
-      ∷ returnsName s
-      ∷ exposuresWithin s
-      ∷ keysDistinct s
-      ∷ positionsStand s
-      ∷ positionsCover s
-      ∷ holdingsWithin s
-      ∷ []
+  sentenceTests = fieldsInRange s ∷ numbersDistinct s ∷ pairsAgree s ∷ settledWithin s ∷ namedSetUp s ∷ fopPairsBelong s ∷ returnsName s ∷ exposuresWithin s ∷ keysDistinct s ∷ positionsStand s ∷ zeroHasNoPosition s ∷ holdingsWithin s ∷ []
 
   abbrev blankTests : List Bool
-  blankTests =
-      blankUnless s 32 (participantSetUp s) profileTables
-      ∷ blankUnless s 32 (changeWaits s) waitingTables
-      ∷ blankUnless s 16 (basketSetUp s) basketTables
-      ∷ blankUnless s 256 (isUsed s) requestTables
-      ∷ blankUnless s 64 (isInUse s) exposureTables
-      ∷ all (λ k. eqb (s spares k) 0) (rowsOf spares) 0
-      ∷ []
+  blankTests = blankUnless s 32 (participantSetUp s) profileTables ∷ blankUnless s 32 (changeWaits s) waitingTables ∷ blankUnless s 16 (basketSetUp s) basketTables ∷ blankUnless s 256 (isUsed s) requestTables ∷ blankUnless s 64 (isInUse s) exposureTables ∷ all (λ k. eqb (s spares k) 0) (rowsOf spares) 0 ∷ []
 
   abbrev markTests : List Bool
   markTests = all markFits 256 0 ∷ all partialFits 256 0 ∷ []
@@ -221,8 +148,8 @@ module _ (s : State) (h : sound s ≡ true) where
       ⊎-elim
       (λ u.
       let p = parts (between 1 1000000 (s lots i)) (priceTests s i) (each-at 64 (securitySetUp s) (priceInRange s) (ranges .1 .0) i l u) in
-      rw u (join (leb (s lots i) 1000000 ∷ between 1 3000000 (s prices i) ∷ leb (s haircuts i) 9999 ∷ quoteOpen s i ∷ [])
-      (and-right (leb 1 (s lots i)) (leb (s lots i) 1000000) (p .0), (p .1 .0, (p .1 .1, each-at 64 (securitySetUp s) (quoteOpen s) (days .1 .0) i l u)))))
+      rw u (join (leb (s lots i) 1000000 ∷ between 1 3000000 (s prices i) ∷ leb (s haircuts i) 9999 ∷ openDay (s quoteDays i) ∷ [])
+      (and-right (leb 1 (s lots i)) (leb (s lots i) 1000000) (p .0), (p .1 .0, (p .1 .1, each-at 64 (securitySetUp s) _ (days .1 .0) i l u)))))
       (λ u. rw u (and-right (eqb (s lots i) 0) _ (unless-at 64 (securitySetUp s) (rowBlank s securityTables) (blanks .0) i l u)))
       (either (securitySetUp s i))
 
@@ -262,7 +189,7 @@ module _ (s : State) (h : sound s ≡ true) where
       range = parts (leb (s sides i) 1) (requestTests s i) (each-at 256 (isUsed s) (requestInRange s) (ranges .1 .1 .1 .1 .0) i l u)
 
       day : Each (openDay (s settlements i) ∷ openOrNone (s closings i) ∷ [])
-      day = split (openDay (s settlements i) ∷ openOrNone (s closings i) ∷ []) (each-at 256 (isUsed s) (requestOpen s) (days .1 .1 .0) i l u)
+      day = split (openDay (s settlements i) ∷ openOrNone (s closings i) ∷ []) (each-at 256 (isUsed s) _ (days .1 .1 .0) i l u)
 
       kinds : (fopInRange s i ≡ true) ⊎ (returnInRange s i ≡ true)
       kinds = or-cases (fopInRange s i) (returnInRange s i) (range .1 .1 .1)
@@ -273,7 +200,7 @@ module _ (s : State) (h : sound s ≡ true) where
           let a = between-facts (s tolerance 0) 1000000000000 (s amounts i) (t .1 .1) in
           fop (eqb-true (s requestKinds i) 6 (t .0)) (record {
             basket-below = ltb-true (s basketsOrExposures i) 16 (t .1 .0);
-            basket-known = each-at 256 (isFop s) (basketKnown s) (named .1 .0) i l (t .0);
+            basket-known = each-at 256 (isFop s) _ (named .1 .0) i l (t .0);
             amount-low = a .0;
             amount-high = a .1;
             closing = day .1;
@@ -284,7 +211,7 @@ module _ (s : State) (h : sound s ≡ true) where
           let o = s basketsOrExposures i in
           let t = parts (isReturn s i) (returnTests s i) r in
           let a = between-facts 1 1000000000000 (s amounts i) (t .1 .1) in
-          let n = split (isInUse s o ∷ eqb (s exposureGivers o) (s givers i) ∷ eqb (s exposureTakers o) (s takers i) ∷ []) (each-at 256 (isReturn s) (names s) (sentence .1 .1 .1 .1 .1 .1 .1 .0) i l (t .0)) in
+          let n = split (isInUse s o ∷ eqb (s exposureGivers o) (s givers i) ∷ eqb (s exposureTakers o) (s takers i) ∷ []) (each-at 256 (isReturn s) _ (sentence .1 .1 .1 .1 .1 .1 .1 .0) i l (t .0)) in
           return (eqb-true (s requestKinds i) 7 (t .0)) (record {
             exposure-below = ltb-true o 64 (t .1 .0);
             exposure-used = eqb-true (s inUse o) 1 (n .0);
@@ -299,7 +226,7 @@ module _ (s : State) (h : sound s ≡ true) where
       fields =
           let m = parts (leb (s pairPartials i) 1) (leb (s cancels i) 1 ∷ leb (s ends i) 1 ∷ []) (below (markFits s) 256 (marks .1 .0) i l) in
           record {
-            number-below = ltb-true (s numbers i) (s nextNumber 0) (and-left (ltb (s numbers i) (s nextNumber 0)) (all (differs s i) i 0) (each-at 256 (isUsed s) (numberFits s) (sentence .1 .1 .0) i l u));
+            number-below = ltb-true (s numbers i) (s nextNumber 0) (and-left (ltb (s numbers i) (s nextNumber 0)) (all (differs s i) i 0) (each-at 256 (isUsed s) _ (sentence .1 .1 .0) i l u));
             side = leb-true (s sides i) 1 (range .0);
             parties = parties-of (s givers i) (s takers i) (range .1 .0) (range .1 .1 .0) (each-at 256 (isUsed s) (partiesKnown s) (named .0) i l u);
             kind = ⊎-elim fop-of return-of kinds;
@@ -313,7 +240,7 @@ module _ (s : State) (h : sound s ≡ true) where
       paired : isPaired s i ≡ true → Paired s i
       paired v =
           let j = partnerOf s i in
-          let p = parts (ltb j 256) (pairTests s i j) (each-at 256 (isPaired s) (agrees s) (sentence .1 .1 .1 .0) i l v) in
+          let p = parts (ltb j 256) (pairTests s i j) (each-at 256 (isPaired s) _ (sentence .1 .1 .1 .0) i l v) in
           let a = split (alikeTests s i j) (p .1 .1 .1) in
           record {
             pair = record {
@@ -332,7 +259,7 @@ module _ (s : State) (h : sound s ≡ true) where
               partial = eqb-true (s pairPartials i) (s pairPartials j) (rw v at (below (partialFits s) 256 (marks .1 .1) i l));
             };
             belongs = ⊎-elim
-                (λ f. inr (ltb-true (exposureOfFop s i) 64 (each-at 256 (isFopPair s) (belongs s) (sentence .1 .1 .1 .1 .1 .1 .0) i l (join (isFop s i ∷ isPaired s i ∷ []) (parts (isFop s i) (fopTests s i) f .0, v)))))
+                (λ f. inr (ltb-true (exposureOfFop s i) 64 (each-at 256 (isFopPair s) _ (sentence .1 .1 .1 .1 .1 .1 .0) i l (join (isFop s i ∷ isPaired s i ∷ []) (parts (isFop s i) (fopTests s i) f .0, v)))))
                 (λ r. inl (parts (isReturn s i) (returnTests s i) r .0))
                 kinds;
           }
@@ -353,7 +280,7 @@ module _ (s : State) (h : sound s ≡ true) where
     number-test : distinctNumber s i ≡ true
     number-test =
         ⊎-elim
-        (λ u. rw (and-right (ltb (s numbers i) (s nextNumber 0)) (all (differs s i) i 0) (each-at 256 (isUsed s) (numberFits s) (sentence .1 .1 .0) i l u), or-true))
+        (λ u. rw (and-right (ltb (s numbers i) (s nextNumber 0)) (all (differs s i) i 0) (each-at 256 (isUsed s) _ (sentence .1 .1 .0) i l u), or-true))
         (λ u. rw (not-false (eqb (s numbers i) 0) u))
         (either (isUsed s i))
 
@@ -369,13 +296,13 @@ module _ (s : State) (h : sound s ≡ true) where
         ⊎-elim
         (λ u.
         let r = parts (ltb (s exposureGivers e) 32) (exposureTests s e) (each-at 64 (isInUse s) (exposureInRange s) (ranges .1 .1 .1 .1 .1) e l u) in
-        let k = split (partiesSetUp s (s exposureGivers e) (s exposureTakers e) ∷ basketSetUp s (s exposureBaskets e) ∷ []) (each-at 64 (isInUse s) (exposureKnown s) (named .1 .1) e l u) in
+        let k = split (partiesSetUp s (s exposureGivers e) (s exposureTakers e) ∷ basketSetUp s (s exposureBaskets e) ∷ []) (each-at 64 (isInUse s) _ (named .1 .1) e l u) in
         exposure-sound s e (eqb-true (s inUse e) 1 u) (record {
           parties = parties-of (s exposureGivers e) (s exposureTakers e) (r .0) (r .1 .0) (k .0);
           basket-below = ltb-true (s exposureBaskets e) 16 (r .1 .1);
           basket-known = k .1;
-          closing = each-at 64 (isInUse s) (closingOpen s) (days .1 .1 .1) e l u;
-          amount = leb-true (s exposureAmounts e) 10000000000000 (below (amountFits s) 64 (sentence .1 .1 .1 .1 .1 .1 .1 .1 .0) e l);
+          closing = each-at 64 (isInUse s) _ (days .1 .1 .1) e l u;
+          amount = leb-true (s exposureAmounts e) 10000000000000 (below _ 64 (sentence .1 .1 .1 .1 .1 .1 .1 .1 .0) e l);
         }))
         (λ u. rw (no-mark u) (and-right (eqb (s inUse e) 0) _ (no-row u)))
         (either (isInUse s e))
@@ -383,7 +310,7 @@ module _ (s : State) (h : sound s ≡ true) where
     key-test : distinctKey s e ≡ true
     key-test =
         ⊎-elim
-        (λ u. rw (each-at 64 (isInUse s) (keyDiffers s) (sentence .1 .1 .1 .1 .1 .1 .1 .1 .1 .0) e l u, or-true))
+        (λ u. rw (each-at 64 (isInUse s) _ (sentence .1 .1 .1 .1 .1 .1 .1 .1 .1 .0) e l u, or-true))
         (λ u. rw (no-mark u))
         (either (isInUse s e))
 
@@ -413,7 +340,7 @@ module _ (s : State) (h : sound s ≡ true) where
     exposure = exposure-test;
     key = key-test;
     position = λ e i l m. position-test e l i m;
-    held = λ p i l m. leb-true (holding s p i) 500000000 (below (holdingFits s p) 64 (below (λ p. all (holdingFits s p) 64 0) 32 (sentence .1 .1 .1 .1 .1 .1 .1 .1 .1 .1 .1 .1) p l) i m);
+    held = λ p i l m. leb-true (holding s p i) 500000000 (below _ 64 (below _ 32 (sentence .1 .1 .1 .1 .1 .1 .1 .1 .1 .1 .1 .1) p l) i m);
   }
 
 -- what a sound profile has
@@ -482,8 +409,8 @@ module _ (s : State) (f : Sound s) where
       go (fop k x) = absurd (omega (arith, q))
       go (return k x) = x
 
-  security-parts : (i : ℕ) → i < 64 → securitySetUp s i ≡ true → Each (leb (s lots i) 1000000 ∷ between 1 3000000 (s prices i) ∷ leb (s haircuts i) 9999 ∷ quoteOpen s i ∷ [])
-  security-parts i l u = split (leb (s lots i) 1000000 ∷ between 1 3000000 (s prices i) ∷ leb (s haircuts i) 9999 ∷ quoteOpen s i ∷ []) (rw u at (f .security i l))
+  security-parts : (i : ℕ) → i < 64 → securitySetUp s i ≡ true → Each (leb (s lots i) 1000000 ∷ between 1 3000000 (s prices i) ∷ leb (s haircuts i) 9999 ∷ openDay (s quoteDays i) ∷ [])
+  security-parts i l u = split (leb (s lots i) 1000000 ∷ between 1 3000000 (s prices i) ∷ leb (s haircuts i) 9999 ∷ openDay (s quoteDays i) ∷ []) (rw u at (f .security i l))
 
   exposure-of : (e : ℕ) → e < 64 → isInUse s e ≡ true → Exposure s e
   exposure-of e l u = used-exposure s e (f .exposure e l) (eqb-true (s inUse e) 1 u)
@@ -492,16 +419,11 @@ module _ (s : State) (f : Sound s) where
   participant-parts p l = split (soundProfile (s modes p) (s lists p) (s partials p) ∷ soundProfile (s waitingModes p) (s waitingLists p) (s waitingPartials p) ∷ (participantSetUp s p || eqb (s waitingModes p) 0) ∷ []) (f .participant p l)
 
   days-open : daysOpen s ≡ true
-  days-open = whole (openDay (s today 0)) (dayTests s) (
-    head-facts s (f .head) .open-today,
-    (
-      each-of 64 (securitySetUp s) (quoteOpen s) (λ i l u. security-parts i l u .1 .1 .1),
-      (
-        each-of 256 (isUsed s) (requestOpen s) (λ i l u. join (openDay (s settlements i) ∷ openOrNone (s closings i) ∷ []) (fields-of i l u .settlement, closing-open s i (fields-of i l u .kind))),
-        each-of 64 (isInUse s) (closingOpen s) (λ e l u. exposure-of e l u .closing),
-      ),
-    ),
-  )
+  days-open =
+      let quotes = each-of 64 (securitySetUp s) _ (λ i l u. security-parts i l u .1 .1 .1) in
+      let requests = each-of 256 (isUsed s) _ (λ i l u. join (openDay (s settlements i) ∷ openOrNone (s closings i) ∷ []) (fields-of i l u .settlement, closing-open s i (fields-of i l u .kind))) in
+      let exposures = each-of 64 (isInUse s) _ (λ e l u. exposure-of e l u .closing) in
+      whole (openDay (s today 0)) (dayTests s) (head-facts s (f .head) .open-today, (quotes, (requests, exposures)))
 
   price-range : (i : ℕ) → i < 64 → securitySetUp s i ≡ true → priceInRange s i ≡ true
   price-range i l u =
@@ -534,40 +456,28 @@ module _ (s : State) (f : Sound s) where
       whole (ltb (s exposureGivers e) 32) (exposureTests s e) (lt-ltb (s exposureGivers e) 32 (x .parties .giver-below), (lt-ltb (s exposureTakers e) 32 (x .parties .taker-below), lt-ltb (s exposureBaskets e) 16 (x .basket-below)))
 
   fields-in-range : fieldsInRange s ≡ true
-  fields-in-range = whole (between 1 100000000 (s tolerance 0)) (rangeTests s) (
-    facts-between 1 100000000 (s tolerance 0) (head-facts s (f .head) .tolerance-low, head-facts s (f .head) .tolerance-high),
-    (
-      each-of 64 (securitySetUp s) (priceInRange s) price-range,
-      (
-        all-of (participantInRange s) 32 0 (λ p g l. participant-range p l),
-        (
-          all-of (ageInRange s) 16 0 (λ b g l. age-range b l),
-          (each-of 256 (isUsed s) (requestInRange s) request-range, each-of 64 (isInUse s) (exposureInRange s) exposure-range),
-        ),
-      ),
-    ),
-  )
+  fields-in-range =
+      let h = head-facts s (f .head) in
+      let head = facts-between 1 100000000 (s tolerance 0) (h .tolerance-low, h .tolerance-high) in
+      let securities = each-of 64 (securitySetUp s) (priceInRange s) price-range in
+      let participants = all-of (participantInRange s) 32 0 (λ p g l. participant-range p l) in
+      let baskets = all-of (ageInRange s) 16 0 (λ b g l. age-range b l) in
+      let requests = each-of 256 (isUsed s) (requestInRange s) request-range in
+      let exposures = each-of 64 (isInUse s) (exposureInRange s) exposure-range in
+      whole (between 1 100000000 (s tolerance 0)) (rangeTests s) (head, (securities, (participants, (baskets, (requests, exposures)))))
 
   numbers-distinct : numbersDistinct s ≡ true
-  numbers-distinct = each-of 256 (isUsed s) (numberFits s) (λ i l u.
+  numbers-distinct = each-of 256 (isUsed s) _ (λ i l u.
       let other : all (differs s i) i 0 ≡ true = rw (not-true (eqb (s numbers i) 0) u) at (f .number i l) in
       join (ltb (s numbers i) (s nextNumber 0) ∷ all (differs s i) i 0 ∷ []) (lt-ltb (s numbers i) (s nextNumber 0) (fields-of i l u .number-below), other))
 
   pairs-agree : pairsAgree s ≡ true
-  pairs-agree = each-of 256 (isPaired s) (agrees s) (λ i l v.
+  pairs-agree = each-of 256 (isPaired s) _ (λ i l v.
       let j = partnerOf s i in
       let p = pair-of i l v .pair in
       let e : (g : ℕ) → s g i ≡ s g j → same s g i j ≡ true = λ g. eq-eqb (s g i) (s g j) in
-      whole (ltb j 256) (pairTests s i j) (
-        lt-ltb j 256 (p .partner-below),
-        (
-          eq-eqb (s partners j) (i + 1) (p .named),
-          (
-            eq-eqb (s sides i + s sides j) 1 (p .opposite),
-            join (alikeTests s i j) (e requestKinds (p .kind), (e givers (p .giver), (e takers (p .taker), (e basketsOrExposures (p .object), (e amounts (p .amount), (e settlements (p .settlement), (e closings (p .closing), (e settledAmounts (p .settled), e ends (p .end))))))))),
-          ),
-        ),
-      ))
+      let terms = join (alikeTests s i j) (e requestKinds (p .kind), (e givers (p .giver), (e takers (p .taker), (e basketsOrExposures (p .object), (e amounts (p .amount), (e settlements (p .settlement), (e closings (p .closing), (e settledAmounts (p .settled), e ends (p .end))))))))) in
+      whole (ltb j 256) (pairTests s i j) (lt-ltb j 256 (p .partner-below), (eq-eqb (s partners j) (i + 1) (p .named), (eq-eqb (s sides i + s sides j) 1 (p .opposite), terms))))
 
   -- a row that is not used holds nothing
   none : (i g : ℕ) → i < 256 → requestKinds ≤ g → g < requestKinds + 14 → isUsed s i ≡ false → s g i ≡ 0
@@ -586,16 +496,16 @@ module _ (s : State) (f : Sound s) where
   )
 
   named-set-up : namedSetUp s ≡ true
-  named-set-up = whole (ofEach 256 (isUsed s) (partiesKnown s)) (namedTests s) (
-    each-of 256 (isUsed s) (partiesKnown s) (λ i l u. parties-known s (s givers i) (s takers i) (fields-of i l u .parties)),
-    (
-      each-of 256 (isFop s) (basketKnown s) (λ i l e. fop-at i l e .basket-known),
-      each-of 64 (isInUse s) (exposureKnown s) (λ e l u. join (partiesSetUp s (s exposureGivers e) (s exposureTakers e) ∷ basketSetUp s (s exposureBaskets e) ∷ []) (parties-known s (s exposureGivers e) (s exposureTakers e) (exposure-of e l u .parties), exposure-of e l u .basket-known)),
-    ),
-  )
+  named-set-up =
+      let requests = each-of 256 (isUsed s) (partiesKnown s) (λ i l u. parties-known s (s givers i) (s takers i) (fields-of i l u .parties)) in
+      let fops = each-of 256 (isFop s) _ (λ i l e. fop-at i l e .basket-known) in
+      let exposures = each-of 64 (isInUse s) _ (λ e l u.
+      let x = exposure-of e l u in
+      join (partiesSetUp s (s exposureGivers e) (s exposureTakers e) ∷ basketSetUp s (s exposureBaskets e) ∷ []) (parties-known s (s exposureGivers e) (s exposureTakers e) (x .parties), x .basket-known)) in
+      whole (ofEach 256 (isUsed s) (partiesKnown s)) (namedTests s) (requests, (fops, exposures))
 
   pairs-belong : fopPairsBelong s ≡ true
-  pairs-belong = each-of 256 (isFopPair s) (belongs s) (λ i l q.
+  pairs-belong = each-of 256 (isFopPair s) _ (λ i l q.
       let t = split (isFop s i ∷ isPaired s i ∷ []) q in
       ⊎-elim
       (λ r. absurd (omega (arith, eqb-true (s requestKinds i) 7 r, eqb-true (s requestKinds i) 6 (t .0))))
@@ -603,20 +513,20 @@ module _ (s : State) (f : Sound s) where
       (pair-of i l (t .1) .belongs))
 
   returns-name : returnsName s ≡ true
-  returns-name = each-of 256 (isReturn s) (names s) (λ i l e.
+  returns-name = each-of 256 (isReturn s) _ (λ i l e.
       let o = s basketsOrExposures i in
       let x = return-at i l e in
       join (isInUse s o ∷ eqb (s exposureGivers o) (s givers i) ∷ eqb (s exposureTakers o) (s takers i) ∷ [])
       (eq-eqb (s inUse o) 1 (x .exposure-used), (eq-eqb (s exposureGivers o) (s givers i) (x .giver), eq-eqb (s exposureTakers o) (s takers i) (x .taker))))
 
   exposures-within : exposuresWithin s ≡ true
-  exposures-within = all-of (amountFits s) 64 0 (λ e g l. le-leb (s exposureAmounts e) 10000000000000 (⊎-elim
+  exposures-within = all-of _ 64 0 (λ e g l. le-leb (s exposureAmounts e) 10000000000000 (⊎-elim
       (λ z. let q : s exposureAmounts e ≡ 0 = no-exposure s e (f .exposure e l) z .amount in omega arith)
       (λ u. used-exposure s e (f .exposure e l) u .amount)
       (used-or-not s e (f .exposure e l))))
 
   keys-distinct : keysDistinct s ≡ true
-  keys-distinct = each-of 64 (isInUse s) (keyDiffers s) (λ e l u. rw (eqb-true (s inUse e) 1 u) at (f .key e l))
+  keys-distinct = each-of 64 (isInUse s) _ (λ e l u. rw (eqb-true (s inUse e) 1 u) at (f .key e l))
 
   positions-stand : positionsStand s ≡ true
   positions-stand = all-of (λ e. ofEach 64 (holds s e) (positionStands s e)) 64 0 (λ e g l. each-of 64 (holds s e) (positionStands s e) (λ i m n. ⊎-elim
@@ -624,14 +534,14 @@ module _ (s : State) (f : Sound s) where
       (λ k. whole (isInUse s e) (standTests s e i) (eq-eqb (s inUse e) 1 (k .used), (k .known, eq-eqb (positionIn s e i % s lots i) 0 (k .whole))))
       (position-facts s e i (f .position e i l m))))
 
-  positions-cover : positionsCover s ≡ true
+  positions-cover : zeroHasNoPosition s ≡ true
   positions-cover = each-of 64 (nothing s) (λ e. all (noPosition s e) 64 0) (λ e l z. all-of (noPosition s e) 64 0 (λ i g m. ⊎-elim
       (λ q. eq-eqb (positionIn s e i) 0 q)
       (λ k. absurd (k .amount (eqb-true (s exposureAmounts e) 0 z)))
       (position-facts s e i (f .position e i l m))))
 
   holdings-within : holdingsWithin s ≡ true
-  holdings-within = all-of (λ p. all (holdingFits s p) 64 0) 32 0 (λ p g l. all-of (holdingFits s p) 64 0 (λ i k m. le-leb (holding s p i) 500000000 (f .held p i l m)))
+  holdings-within = all-of _ 32 0 (λ p g l. all-of _ 64 0 (λ i k m. le-leb (holding s p i) 500000000 (f .held p i l m)))
 
   -- and to the layout's
   waiting-known : ofEach 32 (changeWaits s) (participantSetUp s) ≡ true
@@ -641,28 +551,18 @@ module _ (s : State) (f : Sound s) where
       (or-cases (participantSetUp s p) (eqb (s waitingModes p) 0) (participant-parts p l .1 .1)))
 
   unused-blanks : unusedBlank s ≡ true
-  unused-blanks = whole (blankUnless s 64 (securitySetUp s) securityTables) (blankTests s) (
-    unless-of 64 (securitySetUp s) (rowBlank s securityTables) (λ i l u. rw (not-false (eqb (s lots i) 0) u) (rw u at (f .security i l))),
-    (
-      unless-of 32 (participantSetUp s) (rowBlank s profileTables) (λ p l u. profile-parts (s modes p) (s lists p) (s partials p) (participant-parts p l .0) .2 u),
-      (
-        unless-of 32 (changeWaits s) (rowBlank s waitingTables) (λ p l u. profile-parts (s waitingModes p) (s waitingLists p) (s waitingPartials p) (participant-parts p l .1 .0) .2 u),
-        (
-          unless-of 16 (basketSetUp s) (rowBlank s basketTables) (λ b l u. rw (not-false (eqb (s maps b) 0) u) (rw u at (f .basket b l))),
-          (
-            unless-of 256 (isUsed s) (rowBlank s requestTables) (λ i l u. rw u at (f .row i l)),
-            (
-              unless-of 64 (isInUse s) (rowBlank s exposureTables) (λ e l u. ⊎-elim
-                  (λ z. cond-then (rowBlank s exposureTables e) _ (eqb (s inUse e) 0) (eq-eqb (s inUse e) 0 z) (f .exposure e l))
-                  (λ o. clash (eq-eqb (s inUse e) 1 o) u)
-                  (used-or-not s e (f .exposure e l))),
-              all-of (λ k. eqb (s spares k) 0) (rowsOf spares) 0 (λ k g l. f .spare k l),
-            ),
-          ),
-        ),
-      ),
-    ),
-  )
+  unused-blanks =
+      let securities = unless-of 64 (securitySetUp s) (rowBlank s securityTables) (λ i l u. rw (not-false (eqb (s lots i) 0) u) (rw u at (f .security i l))) in
+      let profiles = unless-of 32 (participantSetUp s) (rowBlank s profileTables) (λ p l u. profile-parts (s modes p) (s lists p) (s partials p) (participant-parts p l .0) .2 u) in
+      let waiting = unless-of 32 (changeWaits s) (rowBlank s waitingTables) (λ p l u. profile-parts (s waitingModes p) (s waitingLists p) (s waitingPartials p) (participant-parts p l .1 .0) .2 u) in
+      let baskets = unless-of 16 (basketSetUp s) (rowBlank s basketTables) (λ b l u. rw (not-false (eqb (s maps b) 0) u) (rw u at (f .basket b l))) in
+      let requests = unless-of 256 (isUsed s) (rowBlank s requestTables) (λ i l u. rw u at (f .row i l)) in
+      let exposures = unless-of 64 (isInUse s) (rowBlank s exposureTables) (λ e l u. ⊎-elim
+      (λ z. cond-then (rowBlank s exposureTables e) _ (eqb (s inUse e) 0) (eq-eqb (s inUse e) 0 z) (f .exposure e l))
+      (λ o. clash (eq-eqb (s inUse e) 1 o) u)
+      (used-or-not s e (f .exposure e l))) in
+      let rest = all-of (λ k. eqb (s spares k) 0) (rowsOf spares) 0 (λ k g l. f .spare k l) in
+      whole (blankUnless s 64 (securitySetUp s) securityTables) (blankTests s) (securities, (profiles, (waiting, (baskets, (requests, (exposures, rest))))))
 
   mark-fits : (i : ℕ) → i < 256 → markFits s i ≡ true
   mark-fits i l = whole (leb (s pairPartials i) 1) (leb (s cancels i) 1 ∷ leb (s ends i) 1 ∷ []) (⊎-elim

@@ -22,7 +22,7 @@ daysOpen s =
     && ofEach 256 (isUsed s) (λ i. openDay (s settlements i) && openOrNone (s closings i))
     && ofEach 64 (isInUse s) (λ e. openOrNone (s exposureClosings e))
 
--- "tolerance and all stored fields lie in the ranges below": the price's
+-- "tolerance and all stored fields lie in the ranges below" (a list, a map and a reference have every value of their bytes): the price's
 abbrev pub priceInRange : State → ℕ → Bool
 priceInRange s i = between 1 1000000 (s lots i) && between 1 3000000 (s prices i) && leb (s haircuts i) 9999
 
@@ -60,7 +60,8 @@ fieldsInRange s =
 abbrev pub numbersDistinct : State → Bool
 numbersDistinct s = ofEach 256 (isUsed s) (λ i. ltb (s numbers i) (s nextNumber 0) && all (λ j. not (eqb (s numbers i) (s numbers j))) i 0)
 
--- "paired rows name each other, their sides opposite, their kind, other record fields but reference, settled amount and end equal"
+-- "paired rows name each other, their sides opposite, their kind, other record fields but reference, settled amount and end equal"; of two
+-- opposite sides one is 0 and the other 1
 abbrev pub pairAgrees : State → ℕ → ℕ → Bool
 pairAgrees s i j =
     ltb j 256
@@ -85,7 +86,7 @@ namedSetUp s =
     && ofEach 256 (isFop s) (λ i. basketSetUp s (s basketsOrExposures i))
     && ofEach 64 (isInUse s) (λ e. partiesSetUp s (s exposureGivers e) (s exposureTakers e) && basketSetUp s (s exposureBaskets e))
 
--- "FOP pairs belong to a used exposure with their key"
+-- "FOP pairs belong to a used exposure with their key" (64 where there is none)
 abbrev pub fopPairsBelong : State → Bool
 fopPairsBelong s = ofEach 256 (λ i. isFop s i && isPaired s i) (λ i. ltb (exposureOfFop s i) 64)
 
@@ -112,8 +113,8 @@ abbrev pub positionsStand : State → Bool
 positionsStand s = all (λ e. ofEach 64 (λ i. not (eqb (positionIn s e i) 0)) (positionStands s e)) 64 0
 
 -- "an exposure of amount 0 has no position"
-abbrev pub positionsCover : State → Bool
-positionsCover s = ofEach 64 (λ e. eqb (s exposureAmounts e) 0) (λ e. all (λ i. eqb (positionIn s e i) 0) 64 0)
+abbrev pub zeroHasNoPosition : State → Bool
+zeroHasNoPosition s = ofEach 64 (λ e. eqb (s exposureAmounts e) 0) (λ e. all (λ i. eqb (positionIn s e i) 0) 64 0)
 
 -- "account plus positions of a giver in one security is at most 500,000,000"
 abbrev pub holdingsWithin : State → Bool
@@ -133,7 +134,7 @@ soundAsWritten s =
     && exposuresWithin s
     && keysDistinct s
     && positionsStand s
-    && positionsCover s
+    && zeroHasNoPosition s
     && holdingsWithin s
 
 -- the whole: the paper's sentence, and the layout's

@@ -14,13 +14,14 @@ use Rattle.picking.specs.Pick.{picked}
 use Rattle.picking.specs.declared.Freed.{Freed}
 use Rattle.picking.specs.declared.Outcome.{Outcome}
 use Rattle.securities.specs.Position.{worth, nominalsOf}
+use Rattle.securities.specs.Security.{hasLot}
 
 -- set up: a participant has a mode, a security a lot, a basket a map
 abbrev pub participantSetUp : State → ℕ → Bool
 participantSetUp s p = not (eqb (s modes p) 0)
 
 abbrev pub securitySetUp : State → ℕ → Bool
-securitySetUp s i = not (eqb (s lots i) 0)
+securitySetUp s i = hasLot (s lots i)
 
 abbrev pub basketSetUp : State → ℕ → Bool
 basketSetUp s b = not (eqb (s maps b) 0)

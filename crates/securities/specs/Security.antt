@@ -19,8 +19,11 @@ securityAt columns i = record {
 }
 
 -- set up: it has a lot
+abbrev pub hasLot : ℕ → Bool
+hasLot lot = not (eqb lot 0)
+
 abbrev pub isSetUp : declared.Security → Bool
-isSetUp s = not (eqb (s .lot) 0)
+isSetUp s = hasLot (s .lot)
 
 -- a host's numbers of a security that is not set up: nothing but zeros
 abbrev pub isBlank : declared.Security → Bool
