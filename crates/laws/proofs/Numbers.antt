@@ -72,6 +72,14 @@ number-split b at w (suc v) =
     let shift : high * 256 ^ suc v ≡ high * 256 ^ v * 256 = rw pow-suc (sym (mul-assoc high (256 ^ v) 256)) in
     rw (add-suc w v, shift, number-split b at w v, ← add-assoc at w v) (omega arith)
 
+-- one byte, and two parts of the same width, as the code puts them together
+pub number-one : (b : List ℕ) (at : ℕ) {n : ℕ} → n ≡ getD b at 0 → n ≡ numberAt b at 1
+unfolding numberAt
+number-one b at e = rw add-zero (omega arith)
+
+pub number-halves : (w : ℕ) (b : List ℕ) (at : ℕ) {m n : ℕ} → m ≡ numberAt b at w → n ≡ numberAt b (at + w) w → m * 256 ^ w + n ≡ numberAt b at (w + w)
+number-halves w b at e g = rw (e, g) (sym (number-split b at w w))
+
 -- and its bytes
 pub bytes-split : (w v x : ℕ) → bytesOf (w + v) x ≡ bytesOf w (x / 256 ^ v) ++ bytesOf v x
 unfolding bytesOf

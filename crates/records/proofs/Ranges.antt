@@ -8,7 +8,7 @@ use lib.Dec.{leb}
 use lib.ListN.{getD}
 use borrow.Author.Tests.{le-leb, lt-leb}
 use Rattle.laws.proofs.Least.{Rest}
-use Rattle.record_kinds.specs.Kinds.{fieldOf, inRange}
+use Rattle.record_kinds.specs.Kinds.{places, fieldOf, inRange}
 use Rattle.records.specs.Writing.{areLegal}
 use Rattle.record_kinds.specs.declared.Field.{Field}
 
@@ -24,5 +24,5 @@ abbrev pub legalAt : ℕ → List ℕ → ℕ → Bool
 legalAt k fields j = inRange k j (getD fields j 0)
 
 -- all are still to be tested
-pub ranges-first : (k : ℕ) (fields : List ℕ) → Rest (legalAt k fields) 8 0 (areLegal k fields)
+pub ranges-first : (k : ℕ) (fields : List ℕ) → Rest (legalAt k fields) places 0 (areLegal k fields)
 ranges-first k fields = record { decides = refl }

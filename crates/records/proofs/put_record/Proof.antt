@@ -5,18 +5,18 @@ use Prim.Native.Nat.{_-_, _≤_}
 use native.Mathlib.Omega.{arith}
 use borrow.Author.Needs.{needs}
 use lib.ListN.{length, take}
-use Rattle.record_kinds.specs.Kinds.{offsetOf, lengthOf}
-use Rattle.records.specs.Writing.{imageTo}
-use Rattle.record_kinds.proofs.Fields.{start-first, length-some, place-next, place-inside, place-fits}
+use Rattle.record_kinds.specs.Kinds.{places, offsetOf, lengthOf}
+use Rattle.records.specs.Writing.{recordBytesTo}
+use Rattle.record_kinds.proofs.Fields.{start-first, length-some, place-next, place-inside, place-fits, field-usual}
 use Rattle.records.proofs.Images.{fill-start, fill-next, fill-end}
 use Rattle.records.proofs.put_record.Statement.{statement}
 use Rattle.records.proofs.put_record.Tie as tie
 
 abbrev Inv-loop : tie.InvT-loop
-Inv-loop part₀ k fields at₀ j₀ part at j = (j ≤ 8) × (at ≡ offsetOf k j) × (length part ≡ lengthOf k) × (take at part ≡ imageTo k fields j)
+Inv-loop part₀ k fields at₀ j₀ part at j = (j ≤ places) × (at ≡ offsetOf k j) × (length part ≡ lengthOf k) × (take at part ≡ recordBytesTo k fields j)
 
 abbrev μ-loop : tie.MeasureT-loop
-μ-loop part₀ k fields at₀ j₀ part at j = 8 - j
+μ-loop part₀ k fields at₀ j₀ part at j = places - j
 
 cast-part : tie.Need-cast-part Inv-loop μ-loop
 cast-part c = search needs
@@ -37,7 +37,7 @@ element-copy-out-put-number : tie.Need-element-copy-out-put-number Inv-loop μ-l
 element-copy-out-put-number c = search needs
 
 put-number-requires : tie.Need-put-number-requires Inv-loop μ-loop
-put-number-requires c κs = search place-inside
+put-number-requires c κs = (search place-inside, search field-usual)
 
 add-at : tie.Need-add-at Inv-loop μ-loop
 add-at c = search place-fits
