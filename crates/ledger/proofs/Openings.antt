@@ -40,7 +40,7 @@ module _ (day tolerance : ℕ) (open-day : openDay day ≡ true) (low : 1 ≤ to
   -- the writer takes the record, whatever stood in the nine bytes, and writes the opening's
   writable : writeCode 0 fields (replicate 9 0) ≡ 0
   unfolding kinds offsetOf sum
-  writable = sym (write-legal 0 fields (replicate 9 0) {n = 9} {t = true} (omega arith) refl refl (sym legal) refl)
+  writable = sym (write-legal 0 fields (replicate 9 0) (omega arith) refl legal)
 
   is-written : written 0 fields (replicate 9 0) ≡ openingOf day tolerance
   unfolding written recordBytesTo kinds bytesOf

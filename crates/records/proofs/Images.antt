@@ -1,20 +1,21 @@
 -- The bytes of a record: how long they are up to each field, and a part that is filled with them.
 -- Assumes nothing.
 use mathlib.Core.Path.{_≡_, sym, ap, _∙_}
-use mathlib.Core.List.{List, _++_}
+use mathlib.Core.List.{List, [], _∷_, _++_, append-nil}
 use mathlib.Core.Logic.{⊎-elim}
 use Prim.Native.Nat.{ℕ, zero, suc, _+_, _%_, _^_, _≤_, _<_}
 use native.Mathlib.Nat.{eq-or-lt-of-le, le-of-suc-le-suc, mod-eq-of-lt, zero-add}
 use native.Mathlib.Numerals.{add-one}
 use native.Mathlib.Omega.{arith}
-use lib.ListN.{length, getD, take, drop, set, length-append}
-use lib.Seq.{take-all, take-at, take-suc, take-suc-set, take-append-le, take-add, getD-take, getD-append-add}
+use lib.ListN.{length, getD, take, drop, set, length-append, length-drop, take-append-drop, drop-of-length-le}
+use lib.Seq.{take-all, take-at, drop-at, drop-drop, take-suc, take-suc-set, take-append-le, take-add, getD-take, getD-append-add}
 use Rattle.record_kinds.specs.Kinds.{places, fieldOf, fieldBytes, offsetOf, lengthOf}
 use Rattle.laws.specs.Numbers.{bytesOf}
 use Rattle.records.specs.Reading.{fieldIn}
 use Rattle.records.specs.Writing.{recordBytesTo, recordBytes}
 use Rattle.record_kinds.specs.declared.Field.{Field}
 use Rattle.record_kinds.proofs.Fields.{start-first, start-next, start-mono, length-some}
+use Rattle.laws.proofs.Patches.{patched}
 use Rattle.laws.proofs.Numbers.{number-same, bytes-length, number-bytes, bytes-number}
 use Rattle.record_kinds.specs.Typed.{kindCount}
 
@@ -46,24 +47,37 @@ module _ (k : ℕ) (fields : List ℕ) where
       longer j n l =
           rw (← add-one n, image-next) (take-append-le (offsetOf k j) (recordBytesTo k fields n) (bytesOf (fieldBytes k n) (getD fields n 0)) (omega (arith, image-length n, start-mono k j n l)))
 
-  -- a part that is filled: the kind, field after field, the end
-  pub fill-start : (part : List ℕ) → k < kindCount → length part ≡ lengthOf k → take 1 (set part 0 (k % 256)) ≡ recordBytesTo k fields 0
+  -- the kind in a part
+  pub fill-start : (part : List ℕ) → k < kindCount → length part ≡ lengthOf k → set part 0 (k % 256) ≡ recordBytesTo k fields 0 ++ drop 1 (set part 0 (k % 256))
   unfolding recordBytesTo
   fill-start part l e =
       let small : k < 256 = omega arith in
-      take-suc-set part 0 (k % 256) (length-some k e) ∙ rw (mod-eq-of-lt small)
+      let first : take 1 (set part 0 (k % 256)) ≡ k ∷ [] = take-suc-set part 0 (k % 256) (length-some k e) ∙ rw (mod-eq-of-lt small) in
+      sym (take-append-drop 1 (set part 0 (k % 256))) ∙ ap (λ (b : List ℕ). b ++ drop 1 (set part 0 (k % 256))) first
 
-  pub fill-next : (j : ℕ) (part : List ℕ) {at : ℕ} {f : Field} {after : List ℕ} → at ≡ offsetOf k j → f ≡ fieldOf k j → take at part ≡ recordBytesTo k fields j → after ≡ take at part ++ bytesOf (f .bytes) (getD fields j 0) ++ drop (at + f .bytes) part → take (at + f .bytes) after ≡ recordBytesTo k fields (j + 1)
-  fill-next j part {at} {f} here it done e =
-      let new = bytesOf (f .bytes) (getD fields j 0) in
-      let long : length (take at part ++ new) ≡ at + f .bytes = simp (length-append, bytes-length, done, image-length j) (omega arith) in
-      rw (e, take-at (take at part ++ new) (drop (at + f .bytes) part) (at + f .bytes) long, done, it) (sym (image-next j))
+  -- A part that is filled field after field; past the fields that are put it is d.
+  module _ (d : List ℕ) where
+    pub fill-next : (j : ℕ) (part : List ℕ) {at : ℕ} {f : Field} {after : List ℕ} → at ≡ offsetOf k j → f ≡ fieldOf k j → part ≡ recordBytesTo k fields j ++ drop at d → after ≡ patched part at (f .bytes) (bytesOf (f .bytes) (getD fields j 0)) → after ≡ recordBytesTo k fields (j + 1) ++ drop (at + f .bytes) d
+    fill-next j part {at} {f} here it done e =
+        let long : length (recordBytesTo k fields j) ≡ at = image-length j ∙ sym here in
+        let front : take at part ≡ recordBytesTo k fields j = rw done (take-at (recordBytesTo k fields j) (drop at d) at long) in
+        let rest : drop at part ≡ drop at d = rw done (drop-at (recordBytesTo k fields j) (drop at d) at long) in
+        let back : drop (at + f .bytes) part ≡ drop (at + f .bytes) d = sym (drop-drop (f .bytes) at part) ∙ ap (drop (f .bytes)) rest ∙ drop-drop (f .bytes) at d in
+        rw (e, front, back, image-next j, it)
 
-  pub fill-end : (j : ℕ) {at : ℕ} (part : List ℕ) → j ≤ places → places ≤ j → at ≡ offsetOf k j → length part ≡ lengthOf k → take at part ≡ recordBytesTo k fields j → part ≡ recordBytes k fields
-  fill-end j {at} part l g here long done =
-      let e : j ≡ places = omega arith in
-      let most : at ≡ lengthOf k = here ∙ ap (offsetOf k) e in
-      sym (take-all at part (omega arith)) ∙ done ∙ ap (recordBytesTo k fields) e
+    -- where the record's length is reached, also before the last place
+    pub fill-whole : (j : ℕ) (part : List ℕ) → j ≤ places → offsetOf k j ≡ lengthOf k → length d ≤ offsetOf k j → part ≡ recordBytesTo k fields j ++ drop (offsetOf k j) d → part ≡ recordBytes k fields
+    fill-whole j part l e short done =
+        done
+        ∙ rw (drop-of-length-le d short, append-nil) (sym (image-take j places l))
+        ∙ take-all (offsetOf k j) (recordBytes k fields) (omega (arith, image-length places))
+
+    pub fill-end : (j : ℕ) {at : ℕ} (part : List ℕ) → j ≤ places → places ≤ j → at ≡ offsetOf k j → length part ≡ lengthOf k → part ≡ recordBytesTo k fields j ++ drop at d → part ≡ recordBytes k fields
+    fill-end j part l g here long done =
+        let last : j ≡ places = omega arith in
+        let all : offsetOf k j ≡ lengthOf k = ap (offsetOf k) last in
+        let same = rw here at done in
+        fill-whole j part l all (omega (arith, image-length j, simp (length-append, length-drop) at (ap length same))) same
 
   -- a byte before the field j
   image-at : (j n i : ℕ) → j ≤ n → i < offsetOf k j → getD (recordBytesTo k fields n) i 0 ≡ getD (recordBytesTo k fields j) i 0

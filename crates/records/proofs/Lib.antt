@@ -1,3 +1,4 @@
+pub mod Fop
 pub mod Images
 pub mod Places
 pub mod Ranges

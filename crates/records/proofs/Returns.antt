@@ -1,11 +1,10 @@
 -- What each return of the reader and of the writer shows.
 -- Assumes nothing.
-use mathlib.Core.Path.{_≡_, sym, ap, _∙_}
-use mathlib.Core.Bool.{Bool, true, false, not, or-true}
+use mathlib.Core.Path.{_≡_, refl, sym, ap, _∙_}
+use mathlib.Core.Bool.{Bool, true, false, not, cond, or-true}
 use mathlib.Core.List.{List}
 use Prim.Native.Nat.{ℕ, _≤_, _<_}
 use native.Mathlib.Omega.{arith}
-use lib.Dec.{T, ltb, ltb→lt}
 use lib.ListN.{length, getD}
 use borrow.Author.Tests.{eq-eqb, ne-eqb, not-true, not-false}
 use Rattle.answers.specs.Answers.{malformed, outOfRange}
@@ -57,14 +56,14 @@ module _ (b : List ℕ) where
     read-legal v = rw (well-formed l (h ∙ e), same ∙ not-false t v, f)
 
 -- the writer that refuses by a code leaves the part
-pub part-kept : (c : ℕ) → T (ltb 0 c) → (k : ℕ) (fields part : List ℕ) → c ≡ writeCode k fields part → part ≡ written k fields part
+pub part-kept : (c : ℕ) → (c ≡ 0 → ⊥) → (k : ℕ) (fields part : List ℕ) → c ≡ writeCode k fields part → part ≡ written k fields part
 unfolding written
-part-kept c t k fields part e = rw (ne-eqb (writeCode k fields part) 0 (λ z. omega (arith, ltb→lt 0 c t)))
+part-kept c some k fields part e = rw (ne-eqb (writeCode k fields part) 0 (λ z. some (e ∙ z)))
 
 module _ (k : ℕ) (fields part : List ℕ) where
-  pub part-filled : {after : List ℕ} → 0 ≡ writeCode k fields part → after ≡ recordBytes k fields → after ≡ written k fields part
+  pub part-filled : {c : ℕ} {after : List ℕ} → c ≡ 0 → c ≡ writeCode k fields part → after ≡ recordBytes k fields → after ≡ written k fields part
   unfolding written
-  part-filled e q = rw (← e) q
+  part-filled z e q = rw (← e, z) q
 
   pub write-unknown : kindCount ≤ k → malformed ≡ writeCode k fields part
   unfolding writeCode misfits
@@ -74,15 +73,9 @@ module _ (k : ℕ) (fields part : List ℕ) where
   unfolding writeCode misfits
   write-misfit e h = rw (ne-eqb (length part) (lengthOf k) (λ z. h (z ∙ sym e)), or-true)
 
-  module _ {n : ℕ} {t : Bool} (l : k < kindCount) (e : n ≡ lengthOf k) (h : length part ≡ n) (g : t ≡ areLegal k fields) where
-    pub fits : misfits k part ≡ false
-    unfolding misfits
-    fits = rw (kind-known k l, eq-eqb (length part) (lengthOf k) (h ∙ e))
+  pub write-ranged : {n c : ℕ} → k < kindCount → n ≡ lengthOf k → length part ≡ n → c ≡ cond (areLegal k fields) 0 outOfRange → c ≡ writeCode k fields part
+  unfolding writeCode misfits
+  write-ranged l e h q = rw (kind-known k l, eq-eqb (length part) (lengthOf k) (h ∙ e)) q
 
-    pub write-illegal : not t ≡ true → outOfRange ≡ writeCode k fields part
-    unfolding writeCode
-    write-illegal v = rw (fits, sym g ∙ not-true t v)
-
-    pub write-legal : not t ≡ false → 0 ≡ writeCode k fields part
-    unfolding writeCode
-    write-legal v = rw (fits, sym g ∙ not-false t v)
+  pub write-legal : k < kindCount → length part ≡ lengthOf k → areLegal k fields ≡ true → 0 ≡ writeCode k fields part
+  write-legal l h g = write-ranged l refl h (rw g)

@@ -60,7 +60,7 @@ reads-back k fields part eight code =
     let same : taken (getD b 0 0) fields ≡ read b =
     read-legal b {n = lengthOf k} {t = true} (rw kind (below k fields part code)) (rw kind) (image-length k fields places)
     (rw kind f) (rw kind (sym (accepted k fields part code .1))) refl in
-    ap read (sym (part-filled k fields part (sym code) refl)) ∙ sym same ∙ ap (λ (n : ℕ). taken n fields) kind
+    ap read (sym (part-filled k fields part refl (sym code) refl)) ∙ sym same ∙ ap (λ (n : ℕ). taken n fields) kind
 
 -- What the reader takes.
 module _ (b : List ℕ) (code : read b .code ≡ 0) where
@@ -100,8 +100,8 @@ writes-back b part small code long =
     let k = getD b 0 0 in
     let fields = filled (fieldIn b k) places places in
     let same = is-taken b code in
-    let ok : 0 ≡ writeCode k fields part = write-legal k fields part {n = lengthOf k} {t = true} (formed b code .0) refl (long ∙ formed b code .1) (numbers-legal b code) refl in
+    let ok : 0 ≡ writeCode k fields part = write-legal k fields part (formed b code .0) (long ∙ formed b code .1) (sym (numbers-legal b code)) in
     record {
       accepted = ap (λ (r : declared.Reading). writeCode (r .kind) (r .fields) part) (sym same) ∙ sym ok;
-      bytes = ap (λ (r : declared.Reading). written (r .kind) (r .fields) part) (sym same) ∙ sym (part-filled k fields part ok refl) ∙ back b code small;
+      bytes = ap (λ (r : declared.Reading). written (r .kind) (r .fields) part) (sym same) ∙ sym (part-filled k fields part refl ok refl) ∙ back b code small;
     }
