@@ -10,6 +10,7 @@ use native.Mathlib.Omega.{arith}
 use lib.ListN.{length, getD, take, drop, set, length-append, length-drop, take-append-drop, drop-of-length-le}
 use lib.Seq.{take-all, take-at, drop-at, drop-drop, take-suc, take-suc-set, take-append-le, take-add, getD-take, getD-append-add}
 use Rattle.record_kinds.specs.Kinds.{places, fieldOf, fieldBytes, offsetOf, lengthOf}
+use Rattle.record_kinds.specs.Typed.{kindCount}
 use Rattle.laws.specs.Numbers.{bytesOf}
 use Rattle.records.specs.Reading.{fieldIn}
 use Rattle.records.specs.Writing.{recordBytesTo, recordBytes}
@@ -17,7 +18,6 @@ use Rattle.record_kinds.specs.declared.Field.{Field}
 use Rattle.record_kinds.proofs.Fields.{start-first, start-next, start-mono, length-some}
 use Rattle.laws.proofs.Patches.{patched}
 use Rattle.laws.proofs.Numbers.{number-same, bytes-length, number-bytes, bytes-number}
-use Rattle.record_kinds.specs.Typed.{kindCount}
 
 module _ (k : ℕ) (fields : List ℕ) where
   pub image-next : (j : ℕ) → recordBytesTo k fields (j + 1) ≡ recordBytesTo k fields j ++ bytesOf (fieldBytes k j) (getD fields j 0)

@@ -12,11 +12,11 @@ use Rattle.laws.specs.Filled.{filled}
 use Rattle.laws.proofs.Filled.{filled-at}
 use Rattle.laws.proofs.Least.{all-same}
 use Rattle.record_kinds.specs.Kinds.{places, inRange, inRanges, lengthOf}
+use Rattle.record_kinds.specs.Typed.{kindCount}
 use Rattle.records.specs.Reading.{taken, refusedReading, fieldIn, isMalformed, read}
 use Rattle.records.specs.Writing.{areLegal, recordBytes, misfits, writeCode, written}
 use Rattle.records.specs.declared.Reading as declared
 use Rattle.record_kinds.proofs.Fields.{kind-known, kind-unknown, length-some}
-use Rattle.record_kinds.specs.Typed.{kindCount}
 
 -- numbers that a rule gives are legal where the rule's are
 pub legal-filled : (k : ℕ) (f : ℕ → ℕ) → areLegal k (filled f places places) ≡ inRanges k f

@@ -15,6 +15,7 @@ use Rattle.laws.proofs.Cases.{and-right, or-left, or-right}
 use Rattle.laws.proofs.Filled.{filled-length, filled-at}
 use Rattle.laws.proofs.Least.{all-at}
 use Rattle.record_kinds.specs.Kinds.{places, known, fieldOf, fieldBytes, lengthOf, inRange, inRanges}
+use Rattle.record_kinds.specs.Typed.{kindCount}
 use Rattle.records.specs.Reading.{read, taken, refusedReading, fieldIn, isMalformed}
 use Rattle.records.specs.RoundTrip.{ReadsBack, WritesBack}
 use Rattle.records.specs.Writing.{areLegal, recordBytes, misfits, writeCode, written}
@@ -22,7 +23,6 @@ use Rattle.records.specs.declared.Reading as declared
 use Rattle.record_kinds.proofs.Fields.{known-below, greatest-fits}
 use Rattle.records.proofs.Images.{image-length, image-kind, image-field, image-back}
 use Rattle.records.proofs.Returns.{legal-filled, read-legal, part-filled, write-legal}
-use Rattle.record_kinds.specs.Typed.{kindCount}
 
 -- a number in its range has room in its field
 in-range-fits : (k j x : ℕ) → inRange k j x ≡ true → x < 256 ^ fieldBytes k j
@@ -51,11 +51,11 @@ module _ (k : ℕ) (fields part : List ℕ) (code : writeCode k fields part ≡ 
   roomy j l = in-range-fits k j (getD fields j 0) (all-at (λ i. inRange k i (getD fields i 0)) places 0 (accepted .1) j (omega arith) (omega arith))
 
 pub reads-back : ReadsBack
-reads-back k fields part eight code =
+reads-back k fields part long code =
     let b = recordBytes k fields in
     let kind = image-kind k fields in
     let f : fields ≡ filled (fieldIn b k) places places =
-    ext-getD 0 fields (filled (fieldIn b k) places places) (eight ∙ sym (filled-length (fieldIn b k) places places))
+    ext-getD 0 fields (filled (fieldIn b k) places places) (long ∙ sym (filled-length (fieldIn b k) places places))
     (λ j l. sym (filled-at (fieldIn b k) places places j (omega arith) (omega arith) ∙ image-field k fields j (omega arith) (roomy k fields part code j (omega arith)))) in
     let same : taken (getD b 0 0) fields ≡ read b =
     read-legal b {n = lengthOf k} {t = true} (rw kind (below k fields part code)) (rw kind) (image-length k fields places)

@@ -1,6 +1,6 @@
 -- The reader: "The reader alone gives 3, or 4 by these ranges (a FOP amount from 1); what it takes is legal."
 -- Assumes nothing.
-use mathlib.Core.Bool.{Bool, true, false, not, _||_, cond}
+use mathlib.Core.Bool.{Bool, not, _||_, cond}
 use mathlib.Core.List.{List}
 use Prim.Native.Nat.{ℕ}
 use lib.Dec.{eqb}
@@ -11,7 +11,7 @@ use Rattle.record_kinds.specs.Kinds.{places, known, fieldBytes, offsetOf, lengt
 use Rattle.laws.specs.Numbers.{numberAt}
 use Rattle.records.specs.declared.Reading as declared
 
--- a record that was read: its kind and the numbers of its eight places
+-- a record that was read: its kind and its numbers
 abbrev pub taken : ℕ → List ℕ → declared.Reading
 taken k fields = record { code = 0; kind = k; fields = fields }
 

@@ -4,9 +4,9 @@ use mathlib.Core.Path.{_≡_}
 use mathlib.Core.List.{List}
 use Prim.Native.Nat.{ℕ, _<_}
 use lib.ListN.{length, getD}
+use Rattle.record_kinds.specs.Kinds.{places}
 use Rattle.records.specs.Reading.{read, taken}
 use Rattle.records.specs.Writing.{writeCode, written}
-use Rattle.record_kinds.specs.Kinds.{places}
 
 -- whatever the writer accepts reads back as it was written, whichever part was lent
 abbrev pub ReadsBack : Type 0

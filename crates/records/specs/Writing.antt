@@ -18,7 +18,7 @@ recordBytesTo k fields (suc j) = recordBytesTo k fields j ++ bytesOf (fieldBytes
 abbrev pub recordBytes : ℕ → List ℕ → List ℕ
 recordBytes k fields = recordBytesTo k fields places
 
--- the numbers of a record's eight places are in their ranges
+-- a record's numbers are in the ranges of its kind's fields, those past the last field 0
 abbrev pub areLegal : ℕ → List ℕ → Bool
 areLegal k fields = inRanges k (λ j. getD fields j 0)
 
