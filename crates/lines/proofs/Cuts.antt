@@ -7,17 +7,19 @@ use Prim.Native.Nat.{ℕ, _≤_, _<_}
 use native.Mathlib.Omega.{arith}
 use lib.Dec.{ltb}
 use lib.ListN.{length, getD}
-use borrow.Author.Tests.{lt-ltb, le-ltb, le-leb, lt-leb}
+use borrow.Author.Tests.{le-leb, lt-leb}
 use Rattle.record_kinds.specs.Kinds.{lengthOf}
+use Rattle.record_kinds.specs.Typed.{kindCount}
+use Rattle.record_kinds.proofs.Fields.{kind-known, kind-unknown}
 use Rattle.lines.specs.Cuts.{recordLength, firstRecord, isAwaited}
 
-pub known-length : (k : ℕ) {n : ℕ} → k < 13 → n ≡ lengthOf k → n ≡ recordLength k
+pub known-length : (k : ℕ) {n : ℕ} → k < kindCount → n ≡ lengthOf k → n ≡ recordLength k
 unfolding recordLength
-known-length k h e = rw (lt-ltb k 13 h) e
+known-length k h e = rw (kind-known k h) e
 
-pub unknown-length : (k : ℕ) → 13 ≤ k → 0 ≡ recordLength k
+pub unknown-length : (k : ℕ) → kindCount ≤ k → 0 ≡ recordLength k
 unfolding recordLength
-unknown-length k h = rw (le-ltb k 13 h)
+unknown-length k h = rw (kind-unknown k h)
 
 pub no-record : (b : List ℕ) → length b ≡ 0 → 0 ≡ firstRecord b
 unfolding firstRecord

@@ -30,7 +30,7 @@ fn length_of(kind: u8) -> usize
     ensures { λ r. ⌜ r ≡ recordLength kind ⌝ }
 {
     let k = wide(kind);
-    if k < 13 {
+    if k < record_kinds::KINDS {
         record_kinds::length_of(k)
     } else {
         0

@@ -17,9 +17,10 @@ use book::layout::MAPS;
 use book::layout::MODES;
 use book::layout::NEXT_NUMBER;
 use book::layout::TODAY;
+use record_kinds::Fields;
 
 // 5 where the giver or the taker is not set up, else 0.
-pub fn party_code(book: &[u8], fields: &[u64; 8]) -> u64
+pub fn party_code(book: &[u8], fields: &Fields) -> u64
     requires { ⌜ (length (now book) ≡ bookLength) × RequestIn (now fields) ⌝ }
     ensures { λ r. ⌜ r ≡ lowest (partyRules (state (now (book .entry))) (now (fields .entry))) ⌝ }
 {
@@ -33,7 +34,7 @@ pub fn party_code(book: &[u8], fields: &[u64; 8]) -> u64
 }
 
 // 5 where a FOP's basket is not set up, else 0.
-fn basket_code(book: &[u8], fields: &[u64; 8]) -> u64
+fn basket_code(book: &[u8], fields: &Fields) -> u64
     requires { ⌜ (length (now book) ≡ bookLength) × (basketOrExposureIn (now fields) < 16) ⌝ }
     ensures { λ r. ⌜ r ≡ lowest (basketNameRules (state (now (book .entry))) (now (fields .entry))) ⌝ }
 {
@@ -45,7 +46,7 @@ fn basket_code(book: &[u8], fields: &[u64; 8]) -> u64
 }
 
 // 7 where the settlement day is not open or lies before today, else 0.
-pub fn settlement_code(book: &[u8], fields: &[u64; 8]) -> u64
+pub fn settlement_code(book: &[u8], fields: &Fields) -> u64
     requires { ⌜ length (now book) ≡ bookLength ⌝ }
     ensures { λ r. ⌜ r ≡ lowest (settlementRules (state (now (book .entry))) (now (fields .entry))) ⌝ }
 {
@@ -59,7 +60,7 @@ pub fn settlement_code(book: &[u8], fields: &[u64; 8]) -> u64
 }
 
 // 7 where a FOP has a closing day that is not open or does not lie after settlement, else 0.
-fn closing_code(fields: &[u64; 8]) -> u64
+fn closing_code(fields: &Fields) -> u64
     ensures { λ r. ⌜ r ≡ lowest (closingRules (now (fields .entry))) ⌝ }
 {
     if fields[6] == 0 {
@@ -75,7 +76,7 @@ fn closing_code(fields: &[u64; 8]) -> u64
 }
 
 // 8 where the giver is the taker; 9 for a taker's request where it accepts that giver automatically; else 0.
-pub fn taker_code(book: &[u8], fields: &[u64; 8]) -> u64
+pub fn taker_code(book: &[u8], fields: &Fields) -> u64
     requires { ⌜ (length (now book) ≡ bookLength) × RequestIn (now fields) ⌝ }
     ensures { λ r. ⌜ r ≡ lowest (takerRules (state (now (book .entry))) (now (fields .entry))) ⌝ }
 {
@@ -92,7 +93,7 @@ pub fn taker_code(book: &[u8], fields: &[u64; 8]) -> u64
 }
 
 // How many request rows the record needs.
-fn rows_needed(book: &[u8], fields: &[u64; 8]) -> u64
+fn rows_needed(book: &[u8], fields: &Fields) -> u64
     requires { ⌜ (length (now book) ≡ bookLength) × RequestIn (now fields) ⌝ }
     ensures { λ r. ⌜ (r ≡ rowsNeeded (state (now (book .entry))) (now (fields .entry))) × (r ≤ 2) ⌝ }
 {
@@ -104,7 +105,7 @@ fn rows_needed(book: &[u8], fields: &[u64; 8]) -> u64
 }
 
 // 14 where there are too few request rows, or numbers would go above 999,999,999; else 0.
-pub fn row_code(book: &[u8], fields: &[u64; 8]) -> u64
+pub fn row_code(book: &[u8], fields: &Fields) -> u64
     requires { ⌜ (length (now book) ≡ bookLength) × RequestIn (now fields) ⌝ }
     ensures { λ r. ⌜ r ≡ lowest (rowRules (state (now (book .entry))) (now (fields .entry))) ⌝ }
 {
@@ -119,7 +120,7 @@ pub fn row_code(book: &[u8], fields: &[u64; 8]) -> u64
 }
 
 // Is a request paired at once?
-fn does_pair_now(book: &[u8], kind: u64, fields: &[u64; 8]) -> bool
+fn does_pair_now(book: &[u8], kind: u64, fields: &Fields) -> bool
     requires { ⌜ (length (now book) ≡ bookLength) × RequestIn (now fields) ⌝ }
     ensures { λ r. ⌜ r ≡ pairsNow (state (now (book .entry))) kind (now (fields .entry)) ⌝ }
 {
@@ -130,7 +131,7 @@ fn does_pair_now(book: &[u8], kind: u64, fields: &[u64; 8]) -> bool
 }
 
 // 15 where a FOP pairs, no exposure has its key and no exposure row is free; else 0. A free row, most often the case, is looked for first.
-pub fn exposure_code(book: &[u8], fields: &[u64; 8]) -> u64
+pub fn exposure_code(book: &[u8], fields: &Fields) -> u64
     requires { ⌜ (length (now book) ≡ bookLength) × RequestIn (now fields) ⌝ }
     ensures { λ r. ⌜ r ≡ lowest (exposureRules (state (now (book .entry))) (now (fields .entry))) ⌝ }
 {
@@ -147,7 +148,7 @@ pub fn exposure_code(book: &[u8], fields: &[u64; 8]) -> u64
 }
 
 // 5 or 7 by the names and days of a FOP, else 0.
-pub fn fop_name_code(book: &[u8], fields: &[u64; 8]) -> u64
+pub fn fop_name_code(book: &[u8], fields: &Fields) -> u64
     requires { ⌜ (length (now book) ≡ bookLength) × RequestIn (now fields) × (basketOrExposureIn (now fields) < 16) ⌝ }
     ensures { λ r. ⌜ r ≡ lowest (fopNameRules (state (now (book .entry))) (now (fields .entry))) ⌝ }
 {
@@ -167,7 +168,7 @@ pub fn fop_name_code(book: &[u8], fields: &[u64; 8]) -> u64
 }
 
 // Is the exposure that a return names used, with its giver and taker?
-pub fn names_exposure(book: &[u8], fields: &[u64; 8]) -> bool
+pub fn names_exposure(book: &[u8], fields: &Fields) -> bool
     requires { ⌜ (length (now book) ≡ bookLength) × RequestIn (now fields) ⌝ }
     ensures { λ r. ⌜ r ≡ isExposureOf (state (now (book .entry))) (giverIn (now (fields .entry))) (takerIn (now (fields .entry))) (basketOrExposureIn (now (fields .entry))) ⌝ }
 {

@@ -18,9 +18,10 @@ use book::layout::NEXT_NUMBER;
 use book::layout::NUMBERS;
 use book::layout::PAIR_PARTIALS;
 use book::layout::PARTNERS;
+use record_kinds::Fields;
 
 // Enters a request that waits for an equal one.
-pub fn enter_waiting(book: &mut [u8], kind: u64, fields: &[u64; 8])
+pub fn enter_waiting(book: &mut [u8], kind: u64, fields: &Fields)
     requires { ⌜ (length (now book) ≡ bookLength) × EntryIn kind (now fields) × RoomForOne (state (now book)) ⌝ }
     ensures { λ _. ⌜ state (now (book .exit)) ≡ waiting (state (now (book .entry))) kind (now (fields .entry)) ⌝ }
 {
@@ -31,7 +32,7 @@ pub fn enter_waiting(book: &mut [u8], kind: u64, fields: &[u64; 8])
 }
 
 // Enters a request and pairs it with the row j.
-pub fn enter_with_equal(book: &mut [u8], kind: u64, fields: &[u64; 8], j: usize)
+pub fn enter_with_equal(book: &mut [u8], kind: u64, fields: &Fields, j: usize)
     requires { ⌜ (length (now book) ≡ bookLength) × EntryIn kind (now fields) × RoomForOne (state (now book)) × (j < 256) ⌝ }
     ensures { λ _. ⌜ state (now (book .exit)) ≡ withEqual (state (now (book .entry))) kind (now (fields .entry)) j ⌝ }
 {
@@ -45,7 +46,7 @@ pub fn enter_with_equal(book: &mut [u8], kind: u64, fields: &[u64; 8], j: usize)
 }
 
 // Enters a giver's request and the taker request made for it, with the same reference, and pairs them.
-pub fn enter_with_taker(book: &mut [u8], kind: u64, fields: &[u64; 8])
+pub fn enter_with_taker(book: &mut [u8], kind: u64, fields: &Fields)
     requires { ⌜ (length (now book) ≡ bookLength) × EntryIn kind (now fields) × RoomForTwo (state (now book)) ⌝ }
     ensures { λ _. ⌜ state (now (book .exit)) ≡ withTaker (state (now (book .entry))) kind (now (fields .entry)) ⌝ }
 {
@@ -60,7 +61,7 @@ pub fn enter_with_taker(book: &mut [u8], kind: u64, fields: &[u64; 8])
 }
 
 // Gives out the exposure row e, with the key of a FOP and the amount 0.
-fn give_exposure(book: &mut [u8], fields: &[u64; 8], e: usize)
+fn give_exposure(book: &mut [u8], fields: &Fields, e: usize)
     requires { ⌜ (length (now book) ≡ bookLength) × EntryIn 6 (now fields) × (e < 64) ⌝ }
     ensures { λ _. ⌜ state (now (book .exit)) ≡ exposureGiven (state (now (book .entry))) (now (fields .entry)) e ⌝ }
 {
@@ -73,7 +74,7 @@ fn give_exposure(book: &mut [u8], fields: &[u64; 8], e: usize)
 }
 
 // A FOP pair belongs to the exposure with its key; where there is none yet, the lowest free row is given out.
-pub fn join_exposure(book: &mut [u8], kind: u64, fields: &[u64; 8])
+pub fn join_exposure(book: &mut [u8], kind: u64, fields: &Fields)
     requires { ⌜ (length (now book) ≡ bookLength) × EntryIn kind (now fields) × ExposureRoom (state (now book)) kind (now fields) ⌝ }
     ensures { λ _. ⌜ state (now (book .exit)) ≡ withExposure (state (now (book .entry))) kind (now (fields .entry)) ⌝ }
 {

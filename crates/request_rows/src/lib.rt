@@ -25,16 +25,17 @@ use book::layout::SETTLED_AMOUNTS;
 use book::layout::SETTLEMENTS;
 use book::layout::SIDES;
 use book::layout::TAKERS;
+use record_kinds::Fields;
 
 // The reference of a record: the last field of its kind.
-fn reference_in(kind: u64, fields: &[u64; 8]) -> u64
+fn reference_in(kind: u64, fields: &Fields) -> u64
     ensures { λ r. ⌜ r ≡ referenceIn kind (now (fields .entry)) ⌝ }
 {
     if kind == 6 { fields[7] } else { fields[6] }
 }
 
 // Writes a row's parties with their basket or exposure.
-fn write_parties(book: &mut [u8], fields: &[u64; 8], i: usize)
+fn write_parties(book: &mut [u8], fields: &Fields, i: usize)
     requires { ⌜ (length (now book) ≡ bookLength) × RequestIn (now fields) × (i < 256) ⌝ }
     ensures { λ _. ⌜ state (now (book .exit)) ≡ withParties (state (now (book .entry))) (now (fields .entry)) i ⌝ }
 {
@@ -44,7 +45,7 @@ fn write_parties(book: &mut [u8], fields: &[u64; 8], i: usize)
 }
 
 // Writes a row's amount, days and reference.
-fn write_terms(book: &mut [u8], kind: u64, fields: &[u64; 8], i: usize)
+fn write_terms(book: &mut [u8], kind: u64, fields: &Fields, i: usize)
     requires { ⌜ (length (now book) ≡ bookLength) × EntryIn kind (now fields) × (i < 256) ⌝ }
     ensures { λ _. ⌜ state (now (book .exit)) ≡ withTerms (state (now (book .entry))) kind (now (fields .entry)) i ⌝ }
 {
@@ -70,7 +71,7 @@ fn write_marks(book: &mut [u8], i: usize, partner: u64, partial: u64)
 pub fn fill_row(
     book: &mut [u8],
     kind: u64,
-    fields: &[u64; 8],
+    fields: &Fields,
     i: usize,
     side: u64,
     partner: u64,
@@ -97,7 +98,7 @@ pub fn take_row(book: &mut [u8], number: u64) -> usize
 }
 
 // 1 where both parties allow partial settlement now, else 0.
-pub fn partial_mark(book: &[u8], fields: &[u64; 8]) -> u64
+pub fn partial_mark(book: &[u8], fields: &Fields) -> u64
     requires { ⌜ (length (now book) ≡ bookLength) × RequestIn (now fields) ⌝ }
     ensures { λ r. ⌜ (r ≡ partialMark (state (now (book .entry))) (now (fields .entry))) × (r ≤ 1) ⌝ }
 {
