@@ -6,7 +6,7 @@ use mathlib.Core.List.{List}
 use Prim.Native.Nat.{ℕ, _+_, _-_, _≤_, _<_}
 use native.Mathlib.Omega.{arith}
 use lib.Dec.{eqb}
-use borrow.Author.Tests.{eqb-false, eq-eqb, not-true}
+use borrow.Author.Tests.{eqb-false, not-true}
 use Rattle.book.specs.Layout.{requestKinds, amounts, settledAmounts, partners, inUse, exposureAmounts}
 use Rattle.book.specs.State.{State, put, columnsOf}
 use Rattle.rules.specs.Requests.{isPaired, restOf, exposureOfFop}
@@ -16,7 +16,8 @@ use Rattle.facts.proofs.Rows.{Fields, Kind, fop, return, Return, Paired, used-f
 use Rattle.settlement_laws.proofs.Settling.{return-names, fop-below}
 use Rattle.eligibility.proofs.Fresh.{columns-same}
 use Rattle.bonds.specs.Moves.{Pledging, Freeable}
-use Rattle.pair_settlement.specs.Pairs.{PairOf, Settleable}
+use Rattle.settlement_laws.specs.Ways.{PairOf}
+use Rattle.pair_settlement.specs.Pairs.{Settleable}
 
 -- what the numbers of a pair and of an exposure leave as it is
 module _ (s : State) (i x d y : ℕ) where
@@ -68,10 +69,10 @@ module _ {s : State} (g : Good s) where
         }
 
   pub return-pair : {i : ℕ} → PairOf s 7 i → Return s i
-  return-pair {i} p = return-names s i g (p .below) (p .used) (p .paired) (eq-eqb (s requestKinds i) 7 (p .kind-is))
+  return-pair p = return-names g p
 
   pub fop-pair : {i : ℕ} → PairOf s 6 i → exposureOfFop s i < 64
-  fop-pair {i} p = fop-below s i g (p .below) (p .used) (p .paired) (eq-eqb (s requestKinds i) 6 (p .kind-is))
+  fop-pair p = fop-below g p
 
   pub exposure-le : (e : ℕ) → e < 64 → s inUse e ≡ 1 → s exposureAmounts e ≤ 10000000000000
   exposure-le e l u = used-exposure s e (g .facts .exposure e l) u .amount

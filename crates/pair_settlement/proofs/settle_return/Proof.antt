@@ -7,7 +7,8 @@ use Rattle.bonds.proofs.Ready.{good-freeable}
 use Rattle.bonds.specs.Moves.{Freeable}
 use Rattle.book.specs.State.{state}
 use Rattle.rules.specs.Settlement.{returnAmount}
-use Rattle.pair_settlement.proofs.Amounts.{return-amount, return-none, return-done}
+use Rattle.settlement_laws.specs.Ways.{returnWay}
+use Rattle.pair_settlement.proofs.Amounts.{return-amount, return-done, none-settles}
 use Rattle.pair_settlement.proofs.Pairs.{pair-fields, return-pair, settleable, columns-noted, freeable-noted}
 use borrow.Author.Needs.{needs}
 use Rattle.pair_settlement.proofs.settle_return.Statement.{statement}
@@ -45,7 +46,7 @@ returns : tie.Need-returns
 returns c =
     let s = c .before .before .before .before .before .before .before .before .before in
     let x = settles (c .before) in
-    (sym (c .if1 .taken) ∙ x, return-none (state (s .args .book .now)) (s .args .i) (c .if1 .taken) x)
+    (sym (c .if1 .taken) ∙ x, none-settles returnWay (state (s .args .book .now)) (s .args .i) (c .if1 .taken) x)
 
 sub-note-settled : tie.Need-sub-note-settled
 sub-note-settled c = search needs
