@@ -1,7 +1,7 @@
 -- The least of the keys of the rows that are due, from a bound on, is that of the first row left of the list.
 -- Assumes nothing.
-use mathlib.Core.Path.{_≡_, refl}
-use mathlib.Core.Bool.{Bool, true, false}
+use mathlib.Core.Path.{_≡_, refl, _∙_}
+use mathlib.Core.Bool.{Bool, true, false, _&&_}
 use mathlib.Core.List.{List, [], _∷_}
 use mathlib.Core.Logic.{inl, inr, ⊎-elim}
 use Prim.Native.Nat.{ℕ, zero, suc, _+_, _*_, _/_, _%_, _≤_, _<_}
@@ -9,28 +9,32 @@ use native.Mathlib.Decide.{ℕ-discrete}
 use native.Mathlib.Omega.{arith}
 use lib.Dec.{leb, ltb}
 use lib.ListN.{take}
-use borrow.Author.Tests.{leb-true, leb-false, ltb-false, ltb-true}
-use Rattle.laws.proofs.Cases.{either}
+use borrow.Author.Tests.{leb-true, ltb-false, ltb-true}
+use Rattle.laws.proofs.Cases.{either, and-left, and-right}
 use Rattle.laws.proofs.Lists.{In, Sorted}
 use Rattle.book.specs.State.{State}
 use Rattle.facts.proofs.Keeps.{Good}
 use Rattle.due_pairs.specs.Due.{dueOf, orderOf, keyOf, noKey, keysOf, Collected, lesserFrom, leastFrom}
-use Rattle.due_pairs.proofs.Keys.{too-low, is-lesser, not-lesser, least-one, due-small}
+use Rattle.due_pairs.proofs.Keys.{is-lesser, not-lesser, least-one, due-small}
 
--- the lesser of two from a bound on: one of the two, and at most both
-lesser-holds : (P : ℕ → Type 0) (bound least key : ℕ) → (key < bound → P least) → (bound ≤ key → key < least → P key) → (bound ≤ key → least ≤ key → P least) → P (lesserFrom bound least key)
-lesser-holds P bound least key low lesser greater =
-    ⊎-elim
-    (λ h.
-    let from = leb-true bound key h in
-    ⊎-elim
-    (λ l. let m = ltb-true key least l in rw (← is-lesser bound least key from m) (lesser from m))
-    (λ l. let m = ltb-false key least l in rw (← not-lesser bound least key from m) (greater from m))
-    (either (ltb key least)))
-    (λ h. let m = leb-false bound key h in rw (← too-low bound least key m) (low m))
-    (either (leb bound key))
+-- the lesser of two from a bound on
+module _ (bound least key : ℕ) where
+  lesser-holds : (P : ℕ → Type 0) → P least → (bound ≤ key → key < least → P key) → P (lesserFrom bound least key)
+  unfolding lesserFrom
+  lesser-holds P p q =
+      ⊎-elim
+      (λ h. rw h (q (leb-true bound key (and-left _ (ltb key least) h)) (ltb-true key least (and-right (leb bound key) _ h))))
+      (λ h. rw h p)
+      (either (leb bound key && ltb key least))
 
--- for any test and order: no key from the bound on is less than the least, and what is at most all of them is at most the least
+  lesser-le : bound ≤ key → lesserFrom bound least key ≤ key
+  lesser-le h =
+      ⊎-elim
+      (λ l. omega (arith, is-lesser bound least key h (ltb-true key least l)))
+      (λ l. omega (arith, ltb-false key least l, not-lesser bound least key h (ltb-false key least l)))
+      (either (ltb key least))
+
+-- for any test and order: the least is none or the key of one that passes, from the bound on, and at most that of each such
 module _ (t : ℕ → Bool) (order : ℕ → ℕ) (bound : ℕ) where
   abbrev leastOf : ℕ → ℕ
   leastOf n = leastFrom bound noKey (keysOf t order n)
@@ -43,43 +47,30 @@ module _ (t : ℕ → Bool) (order : ℕ → ℕ) (bound : ℕ) where
   unfolding keysOf
   one-miss n p = rw p
 
-  no-less : (n i : ℕ) → i < n → t i ≡ true → bound ≤ keyOf (order i) i → leastOf n ≤ keyOf (order i) i
-  no-less zero i l p h = absurd (omega arith)
-  no-less (suc n) i l p h =
-      let before = no-less n i in
-      let key = keyOf (order i) i in
-      let new = keyOf (order n) n in
+  least-holds : (P : ℕ → Type 0) (n : ℕ) → P noKey → ((i : ℕ) → i < n → t i ≡ true → bound ≤ keyOf (order i) i → P (keyOf (order i) i)) → P (leastOf n)
+  unfolding keysOf leastFrom
+  least-holds P zero p h = p
+  least-holds P (suc n) p h =
+      let before = least-holds P n p (λ i l. h i (omega arith)) in
+      ⊎-elim
+      (λ q. rw (one-hit n q) (lesser-holds bound (leastOf n) (keyOf (order n) n) P before (λ m k. h n (omega arith) q m)))
+      (λ q. rw (one-miss n q) before)
+      (either (t n))
+
+  least-le : (n i : ℕ) → i < n → t i ≡ true → bound ≤ keyOf (order i) i → leastOf n ≤ keyOf (order i) i
+  least-le zero i l p h = absurd (omega arith)
+  least-le (suc n) i l p h =
+      let before = least-le n i in
       let old = leastOf n in
       elim (ℕ-discrete i n) [
-        | yes e ↦ rw (one-hit n (rw e at p), e) (lesser-holds (λ r. r ≤ new) bound old new (λ m. absurd (let from : bound ≤ new = rw e at h in omega arith)) (λ m k. omega arith) (λ m k. k))
+        | yes e ↦ rw (e, one-hit n (rw e at p)) (lesser-le bound old (keyOf (order n) n) (rw e at h))
         | no d ↦
             let earlier = before (omega arith) p h in
             ⊎-elim
-            (λ q. rw (one-hit n q) (lesser-holds (λ r. r ≤ key) bound old new (λ m. earlier) (λ m k. omega arith) (λ m k. earlier)))
+            (λ q. rw (one-hit n q) (lesser-holds bound old (keyOf (order n) n) (λ r. r ≤ keyOf (order i) i) earlier (λ m k. omega arith)))
             (λ q. rw (one-miss n q) earlier)
             (either (t n))
       ]
-
-  at-least : (n x : ℕ) → x ≤ noKey → ((i : ℕ) → i < n → t i ≡ true → bound ≤ keyOf (order i) i → x ≤ keyOf (order i) i) → x ≤ leastOf n
-  unfolding keysOf leastFrom
-  at-least zero x g h = g
-  at-least (suc n) x g h =
-      let before = at-least n x g (λ i l. h i (omega arith)) in
-      let new = keyOf (order n) n in
-      ⊎-elim
-      (λ q. rw (one-hit n q) (lesser-holds (λ r. x ≤ r) bound (leastOf n) new (λ m. before) (λ m k. h n (omega arith) q m) (λ m k. before)))
-      (λ q. rw (one-miss n q) before)
-      (either (t n))
-
-  at-most : (n : ℕ) → leastOf n ≤ noKey
-  unfolding keysOf leastFrom
-  at-most zero = omega arith
-  at-most (suc n) =
-      let before = at-most n in
-      ⊎-elim
-      (λ q. rw (one-hit n q) (lesser-holds (λ r. r ≤ noKey) bound (leastOf n) _ (λ m. before) (λ m k. omega arith) (λ m k. before)))
-      (λ q. rw (one-miss n q) before)
-      (either (t n))
 
 -- what is left of the rows that are due, after a place in the order: all of them, no other, and in their order
 pub record Ahead (s : State) (kind last : ℕ) (rows : List ℕ) : Type 0 where
@@ -99,10 +90,7 @@ module _ {s : State} {kind : ℕ} (last : ℕ) (g : Good s) {keys : List ℕ} {n
   least = rw (c .all) at q
 
   pub none-left : Ahead s kind last [] → r ≡ noKey
-  none-left a =
-      let t = dueOf s kind in
-      let b = (last + 1) * 256 in
-      omega (arith, least, at-most t (orderOf s) b 256, at-least t (orderOf s) b 256 noKey (omega arith) (λ i l d h. absurd (a .all i l d (omega arith))))
+  none-left a = least ∙ least-holds (dueOf s kind) (orderOf s) ((last + 1) * 256) (λ x. x ≡ noKey) 256 refl (λ i l d h. absurd (a .all i l d (omega arith)))
 
   module _ {i : ℕ} {rows : List ℕ} (a : Ahead s kind last (i ∷ rows)) where
     own : (i < 256) × (dueOf s kind i ≡ true) × (last < orderOf s i)
@@ -114,11 +102,11 @@ module _ {s : State} {kind : ℕ} (last : ℕ) (g : Good s) {keys : List ℕ} {n
     first-key : r ≡ keyOf (orderOf s i) i
     first-key =
         let t = dueOf s kind in
-        let b = (last + 1) * 256 in
+        let bound = (last + 1) * 256 in
         let key = keyOf (orderOf s i) i in
-        let others : (j : ℕ) → j < 256 → t j ≡ true → b ≤ keyOf (orderOf s j) j → key ≤ keyOf (orderOf s j) j = λ j l d h.
-        ⊎-elim (λ e. rw e (omega arith)) (λ k. omega (arith, a .sorted .0 j k, own .0)) (a .all j l d (omega arith)) in
-        omega (arith, least, at-least t (orderOf s) b 256 key (omega (arith, small, own .0)) others, no-less t (orderOf s) b 256 i (own .0) (own .1) (omega (arith, own .2)))
+        let low = least-holds t (orderOf s) bound (λ x. key ≤ x) 256 (omega (arith, small, own .0)) (λ j l d h.
+        ⊎-elim (λ e. rw e (omega arith)) (λ k. omega (arith, a .sorted .0 j k, own .0)) (a .all j l d (omega arith))) in
+        omega (arith, least, low, least-le t (orderOf s) bound 256 i (own .0) (own .1) (omega (arith, own .2)))
 
     pub some-left : r ≡ noKey → ⊥
     some-left z = omega (arith, first-key, small, own .0)

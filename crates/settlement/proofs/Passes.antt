@@ -60,7 +60,7 @@ way-of kind =
 way-prices : (kind : ℕ) (s : State) (i : ℕ) → SamePrices s (left (wayOf kind) s i)
 unfolding returnSettled fopSettled
 way-prices kind s i =
-    left-holds (way-of kind) (SamePrices s) s i (same-start s) (λ n.
+    left-holds (wayOf kind) (SamePrices s) s i (same-start s) (λ n.
     ⊎-elim
     (λ e. rw e (same-prices s (returnSettled s i) (λ j. refl) (λ j. refl) (λ j. refl) (λ j. refl) refl (λ b. refl)))
     (λ e. rw e (same-prices s (fopSettled s i) (λ j. refl) (λ j. refl) (λ j. refl) (λ j. refl) refl (λ b. refl)))
@@ -166,7 +166,7 @@ module _ {kind : ℕ} {s₀ : State} {t₀ : Totals} {n last : ℕ} {s : State} 
       underway-next a m [] w = absurd (z (none-left last g₀ c q (w .ahead)))
       underway-next {u} {r} a m (i ∷ rows) w =
           let b : Alike (begun u r) (settleBy (wayOf kind) (begun s t) i) = rw (next-row last g₀ c q (w .ahead)) at a in
-          let uq : u ≡ left (wayOf kind) s i = b .state ∙ by-left (way-of kind) (begun s t) i in
+          let uq : u ≡ left (wayOf kind) s i = b .state ∙ by-left (wayOf kind) (begun s t) i in
           let p = due-pair (w .lined .due i (inl refl)) in (
             rows,
             record {

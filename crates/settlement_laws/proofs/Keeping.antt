@@ -94,8 +94,8 @@ fop-by w i d =
     by-case (λ x. fopSettles w i x pick) w (restOf s i) (pick .value) (due-rest d)
     (ltb 10000000000000 (s exposureAmounts e + restOf s i)) (ltb (restOf s i - pick .value) (s tolerance 0)) (eqb (s pairPartials i) 1)
 
-module _ {y : Way} {kind : ℕ} (way : AsWay y kind) where
-  -- what holds of the state before and, where something settles, of that after, holds of what is left
+-- what holds of the state before and, where something settles, of that after, holds of what is left
+module _ (y : Way) where
   pub left-holds : (P : State → Type 0) (s : State) (i : ℕ) → P s → (Differ (y .amount s i) 0 → P (y .after s i)) → P (left y s i)
   left-holds P s i p q = ⊎-elim (λ e. rw e p) (λ e. rw e (q (eqb-false (y .amount s i) 0 e))) (either (eqb (y .amount s i) 0))
 
@@ -103,16 +103,18 @@ module _ {y : Way} {kind : ℕ} (way : AsWay y kind) where
   unfolding settleBy
   by-left w i = ⊎-elim (λ e. rw e) (λ e. rw e) (either (eqb (y .amount (w .state) i) 0))
 
+-- one pair
+module _ {y : Way} {kind : ℕ} (way : AsWay y kind) where
   pub next-good : (s : State) (i : ℕ) → Good s → PairOf s kind i → Good (left y s i)
-  next-good s i g p = left-holds Good s i g (λ n. way s i g p n .good)
+  next-good s i g p = left-holds y Good s i g (λ n. way s i g p n .good)
 
   pub next-lined : {s : State} {i : ℕ} {rows : List ℕ} → Good s → Lined s kind (i ∷ rows) → Lined (left y s i) kind rows
   next-lined {s} {i} {rows} g l =
-      left-holds (λ t. Lined t kind rows) s i (record { due = λ k h. l .due k (inr h); apart = l .apart .1 })
+      left-holds y (λ t. Lined t kind rows) s i (record { due = λ k h. l .due k (inr h); apart = l .apart .1 })
       (λ n. lined-next g l (way s i g (due-pair (l .due i (inl refl))) n .touched))
 
   next-others : (s : State) (i : ℕ) → Good s → PairOf s kind i → (other : ℕ) → Differ other kind → dueRows (left y s i) other ≡ dueRows s other
-  next-others s i g p other d = left-holds (λ t. dueRows t other ≡ dueRows s other) s i refl (λ n. others-stay g p (way s i g p n .touched) other d)
+  next-others s i g p other d = left-holds y (λ t. dueRows t other ≡ dueRows s other) s i refl (λ n. others-stay g p (way s i g p n .touched) other d)
 
   next-keeps : {s : State} (w : Step) (i : ℕ) → Keeps s w → PairOf (w .state) kind i → Keeps s (settleBy y w i)
   unfolding settleBy
@@ -142,11 +144,11 @@ module _ {y : Way} {kind : ℕ} (way : AsWay y kind) where
   walked settle agree (i ∷ rows) w k l =
       let d = l .due i (inl refl) in
       let p = due-pair d in
-      let on = walked settle agree rows (settleBy y w i) (next-keeps w i k p) (rw (by-left w i) (next-lined (k .good) l)) in
+      let on = walked settle agree rows (settleBy y w i) (next-keeps w i k p) (rw (by-left y w i) (next-lined (k .good) l)) in
       record {
         keeps = on .keeps;
         same = rw (agree w i d) (on .same);
-        others = λ other n. on .others other n ∙ rw (by-left w i) (next-others (w .state) i (k .good) p other n);
+        others = λ other n. on .others other n ∙ rw (by-left y w i) (next-others (w .state) i (k .good) p other n);
       }
 
 -- "returns before FOPs": the FOPs due at the start are due when the returns have settled

@@ -11,21 +11,21 @@ use Rattle.book.specs.State.{state}
 use Rattle.settlement_laws.specs.Ways.{fopAmount, fopWay}
 use Rattle.rules.specs.Stock.{eligibleFor}
 use Rattle.settlement_laws.proofs.Finding.{exposure-used}
-use Rattle.settlement_laws.proofs.Settling.{fop-within}
+use Rattle.settlement_laws.proofs.Settling.{fop-within, fop-below}
 use Rattle.pair_settlement.proofs.Amounts.{fop-waits, fop-amount, fop-done, none-settles}
-use Rattle.pair_settlement.proofs.Pairs.{pair-fields, fop-pair, rest-le, settleable, exposure-le, pledging-noted}
+use Rattle.pair_settlement.proofs.Pairs.{pair-fields, rest-le, settleable, exposure-le, pledging-noted}
 use borrow.Author.Needs.{needs}
 use Rattle.pair_settlement.proofs.settle_fop.Statement.{statement}
 use Rattle.pair_settlement.proofs.settle_fop.Tie as tie
 
 -- the exposure that the code finds is one of the 64, used, and at most 10^13
 target-below : (c : tie.After-exposure-of-fop) → c .exposure-of-fop .result < 64
-target-below c = let s = c .before .before .before in rw (c .exposure-of-fop .ensures) (fop-pair (s .pre .1) (s .pre .2))
+target-below c = let s = c .before .before .before in rw (c .exposure-of-fop .ensures) (fop-below (s .pre .1) (s .pre .2))
 
 target-used : (c : tie.After-exposure-of-fop) → state (c .before .before .before .args .book .now) inUse (c .exposure-of-fop .result) ≡ 1
 target-used c =
     let s = c .before .before .before in
-    rw (c .exposure-of-fop .ensures) (exposure-used (state (s .args .book .now)) (s .args .i) (fop-pair (s .pre .1) (s .pre .2)))
+    rw (c .exposure-of-fop .ensures) (exposure-used (state (s .args .book .now)) (s .args .i) (fop-below (s .pre .1) (s .pre .2)))
 
 target-le : (c : tie.After-get) → c .get .result ≤ 10000000000000
 target-le c =
