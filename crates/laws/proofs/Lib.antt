@@ -4,6 +4,7 @@ pub mod Chains
 pub mod Filled
 pub mod Largest
 pub mod Least
+pub mod Lists
 pub mod Numbers
 pub mod Patches
 pub mod Sum
