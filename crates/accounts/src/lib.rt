@@ -18,6 +18,7 @@ use book::layout::IN_USE;
 use book::layout::LOTS;
 use book::layout::MODES;
 use book::layout::POSITIONS;
+use limits::GREATEST_NOMINAL;
 use record_kinds::Fields;
 
 // The nominal of security i in exposure e, where it is used and the participant's.
@@ -72,7 +73,7 @@ pub fn deposit_code(book: &[u8], fields: &Fields) -> u64
     if account_code(book, p, i) != 0 {
         return 5;
     }
-    if 500000000 < holding_of(book, p, i) + fields[2] {
+    if GREATEST_NOMINAL < holding_of(book, p, i) + fields[2] {
         return 11;
     }
     0

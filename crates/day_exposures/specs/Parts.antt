@@ -6,6 +6,7 @@ use mathlib.Core.List.{List}
 use Prim.Native.Nat.{ℕ, _+_, _*_, _≤_, _<_}
 use lib.Dec.{eqb}
 use lib.ListN.{length, getD}
+use Rattle.limits.specs.Limits.{greatestExposure, greatestNominal}
 use Rattle.book.specs.Layout.{inUse, exposureGivers, exposureAmounts, accounts, positions}
 use Rattle.book.specs.State.{State, put}
 use Rattle.rules.specs.DayChange.{isExposureClosed, belongs}
@@ -32,8 +33,8 @@ pub record Entire (s : State) (e : ℕ) : Type 0 where
 -- what closing an exposure counts on
 pub record Closable (s : State) : Type 0 where
   pub giver : (e : ℕ) → e < 64 → s inUse e ≡ 1 → s exposureGivers e < 32
-  pub amount : (e : ℕ) → e < 64 → s inUse e ≡ 1 → s exposureAmounts e ≤ 10000000000000
-  pub held : (p i : ℕ) → p < 32 → i < 64 → holding s p i ≤ 500000000
+  pub amount : (e : ℕ) → e < 64 → s inUse e ≡ 1 → s exposureAmounts e ≤ greatestExposure
+  pub held : (p i : ℕ) → p < 32 → i < 64 → holding s p i ≤ greatestNominal
 
 -- a row does not belong to an exposure
 abbrev pub isNotOf : State → ℕ → ℕ → Bool

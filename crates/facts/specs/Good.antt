@@ -3,6 +3,7 @@
 use mathlib.Core.Path.{_≡_}
 use mathlib.Core.Bool.{true}
 use Prim.Native.Nat.{ℕ, _≤_, _<_}
+use Rattle.limits.specs.Limits.{greatestNominal}
 use Rattle.book.specs.Layout.{spares, rowsOf}
 use Rattle.book.specs.State.{State, Fits}
 use Rattle.rules.specs.ByRow.{soundHead, soundSecurity, soundParticipant, soundBasket, isSpare, soundRow, distinctNumber, soundExposure, distinctKey, soundPosition}
@@ -20,7 +21,7 @@ pub record Sound (s : State) : Type 0 where
   pub exposure : (e : ℕ) → e < 64 → soundExposure s e ≡ true
   pub key : (e : ℕ) → e < 64 → distinctKey s e ≡ true
   pub position : (e i : ℕ) → e < 64 → i < 64 → soundPosition s e i ≡ true
-  pub held : (p i : ℕ) → p < 32 → i < 64 → holding s p i ≤ 500000000
+  pub held : (p i : ℕ) → p < 32 → i < 64 → holding s p i ≤ greatestNominal
 
 -- a sound state whose numbers fit their bytes
 pub record Good (s : State) : Type 0 where

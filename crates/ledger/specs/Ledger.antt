@@ -6,6 +6,7 @@ use mathlib.Core.List.{List, [], _∷_, _++_}
 use Prim.Native.Nat.{ℕ, _+_, _-_, _≤_, _<_}
 use lib.Dec.{eqb}
 use lib.ListN.{length, replicate}
+use Rattle.limits.specs.Limits.{greatestTolerance}
 use Rattle.laws.specs.Numbers.{bytesOf}
 use Rattle.calendar.specs.Target.{openDay}
 use Rattle.book.specs.Layout.{bookLength, inUse, exposureAmounts, keyTables}
@@ -158,7 +159,7 @@ openingOf day tolerance = 0 ∷ (bytesOf 4 day ++ bytesOf 4 tolerance)
 -- there are lists that demand 3 speaks of: "Every other call is accepted", so openings are
 pub record OpeningAccepted : Type 0 where
   -- on every book of the right length, of every open day, with every "tolerance 32 (1 to 100,000,000)"
-  pub every : (b : List ℕ) (day tolerance : ℕ) → length b ≡ bookLength → openDay day ≡ true → 1 ≤ tolerance → tolerance ≤ 100000000
+  pub every : (b : List ℕ) (day tolerance : ℕ) → length b ≡ bookLength → openDay day ≡ true → 1 ≤ tolerance → tolerance ≤ greatestTolerance
       → Opened b (openingOf day tolerance)
   -- the first record of document 01's input, "0: 1, 10000", on the program's book that "starts as zero bytes"
   pub first-line : Opened (replicate bookLength 0) (0 ∷ 0 ∷ 0 ∷ 0 ∷ 1 ∷ 0 ∷ 0 ∷ 39 ∷ 16 ∷ [])

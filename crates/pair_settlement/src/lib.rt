@@ -20,6 +20,7 @@ use book::layout::PARTNERS;
 use book::layout::SETTLED_AMOUNTS;
 use book::layout::TAKERS;
 use book::layout::TOLERANCE;
+use limits::GREATEST_EXPOSURE;
 
 // What is left to settle.
 fn rest_of(book: &[u8], i: usize) -> u64
@@ -96,7 +97,7 @@ pub fn settle_fop(book: &mut [u8], columns: &[u64; 256], since: &[u64; 16], i: u
     let e = exposure_of_fop(book, i);
     let exposure = book::get(book, EXPOSURE_AMOUNTS, e);
     let rest = rest_of(book, i);
-    if 10000000000000 < exposure + rest {
+    if GREATEST_EXPOSURE < exposure + rest {
         return 0;
     }
     let outcome = bonds::pick_for(book, columns, since, e, rest);

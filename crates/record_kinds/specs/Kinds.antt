@@ -5,6 +5,7 @@ use mathlib.Core.List.{List, [], _∷_}
 use Prim.Native.Nat.{ℕ, _+_, _-_, _/_, _^_}
 use lib.Dec.{leb, ltb}
 use lib.ListN.{length, getD}
+use Rattle.limits.specs.Limits.{greatestHaircut, greatestLot, greatestNominal, greatestPrice, greatestTolerance}
 use Rattle.laws.specs.Search.{all}
 use Rattle.laws.specs.Sum.{sum}
 use Rattle.record_kinds.specs.declared.Field.{Field}
@@ -35,17 +36,17 @@ abbrev pub day : Field
 day = anyOf 32
 
 abbrev pub toleranceField : Field
-toleranceField = bits 32 1 100000000
+toleranceField = bits 32 1 greatestTolerance
 
 -- 1: "lot 32 (1 to 1,000,000), price 32 (1 to 3,000,000; 1,000,000 is par), haircut 16 (0 to 9,999 hundredths of a percent), quote day 32"
 abbrev pub lot : Field
-lot = bits 32 1 1000000
+lot = bits 32 1 greatestLot
 
 abbrev pub price : Field
-price = bits 32 1 3000000
+price = bits 32 1 greatestPrice
 
 abbrev pub haircut : Field
-haircut = bits 16 0 9999
+haircut = bits 16 0 greatestHaircut
 
 abbrev pub quoteDay : Field
 quoteDay = day
@@ -69,7 +70,7 @@ greatestAge = anyOf 8
 
 -- 4, 5: "nominal 32 (1 to 500,000,000)"
 abbrev pub nominal : Field
-nominal = bits 32 1 500000000
+nominal = bits 32 1 greatestNominal
 
 -- 6, 7: "side 8 (0 giver, 1 taker), .. amount 64 (.. to 10^12), settlement 32, closing 32 (0 means open-ended), reference 64"; "a FOP amount from 1"
 abbrev pub side : Field

@@ -6,6 +6,12 @@ ghost use mathlib.Core.List.{map};
 ghost use Prim.Native.Nat.{_<_};
 ghost use Rattle.record_kinds.specs.Kinds.{places, fieldOf, lengthOf};
 ghost use Rattle.record_kinds.specs.Typed.{kindCount, typed, row};
+use limits::GREATEST_AMOUNT;
+use limits::GREATEST_HAIRCUT;
+use limits::GREATEST_LOT;
+use limits::GREATEST_NOMINAL;
+use limits::GREATEST_PRICE;
+use limits::GREATEST_TOLERANCE;
 
 // The kinds, from 0.
 pub const KINDS: usize = 13;
@@ -104,32 +110,32 @@ fn field_type(t: FieldType) -> Field
         FieldType::Nominal => Field {
             bytes: 4,
             least: 1,
-            greatest: 500000000,
+            greatest: GREATEST_NOMINAL,
         },
         FieldType::Amount => Field {
             bytes: 8,
             least: 1,
-            greatest: 1000000000000,
+            greatest: GREATEST_AMOUNT,
         },
         FieldType::Tolerance => Field {
             bytes: 4,
             least: 1,
-            greatest: 100000000,
+            greatest: GREATEST_TOLERANCE,
         },
         FieldType::Lot => Field {
             bytes: 4,
             least: 1,
-            greatest: 1000000,
+            greatest: GREATEST_LOT,
         },
         FieldType::Price => Field {
             bytes: 4,
             least: 1,
-            greatest: 3000000,
+            greatest: GREATEST_PRICE,
         },
         FieldType::Haircut => Field {
             bytes: 2,
             least: 0,
-            greatest: 9999,
+            greatest: GREATEST_HAIRCUT,
         },
         FieldType::Mode => Field {
             bytes: 1,

@@ -17,6 +17,7 @@ use book::layout::MAPS;
 use book::layout::MODES;
 use book::layout::NEXT_NUMBER;
 use book::layout::TODAY;
+use limits::GREATEST_NEXT;
 use record_kinds::Fields;
 
 // 5 where the giver or the taker is not set up, else 0.
@@ -113,7 +114,7 @@ pub fn row_code(book: &[u8], fields: &Fields) -> u64
     if request_search::free_rows(book) < needed {
         return 14;
     }
-    if 1000000000 - needed < book::get(book, NEXT_NUMBER, 0) {
+    if GREATEST_NEXT - needed < book::get(book, NEXT_NUMBER, 0) {
         return 14;
     }
     0

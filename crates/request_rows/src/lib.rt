@@ -2,6 +2,7 @@
 ghost use mathlib.Core.Path.{_≡_};
 ghost use Prim.Native.Nat.{_<_, _≤_};
 ghost use lib.ListN.{length};
+ghost use Rattle.limits.specs.Limits.{greatestNext};
 ghost use Rattle.book.specs.Layout.{bookLength};
 ghost use Rattle.book.specs.State.{state};
 ghost use Rattle.rules.specs.Requests.{freeRow};
@@ -89,7 +90,7 @@ pub fn fill_row(
 
 // Takes the lowest free row for a request of that number.
 pub fn take_row(book: &mut [u8], number: u64) -> usize
-    requires { ⌜ (length (now book) ≡ bookLength) × (freeRow (state (now book)) < 256) × (number ≤ 1000000000) ⌝ }
+    requires { ⌜ (length (now book) ≡ bookLength) × (freeRow (state (now book)) < 256) × (number ≤ greatestNext) ⌝ }
     ensures { λ r. ⌜ RowTaken (state (now (book .entry))) number r (state (now (book .exit))) ⌝ }
 {
     let i = request_search::free_row(book);

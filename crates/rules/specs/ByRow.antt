@@ -3,6 +3,7 @@
 use mathlib.Core.Bool.{Bool, not, _&&_, _||_, cond}
 use Prim.Native.Nat.{ℕ, _+_, _*_, _%_}
 use lib.Dec.{eqb, leb, ltb}
+use Rattle.limits.specs.Limits.{greatestAmount, greatestExposure, greatestHaircut, greatestLot, greatestNext, greatestNominal, greatestPrice, greatestTolerance}
 use Rattle.laws.specs.Search.{between, all}
 use Rattle.calendar.specs.Target.{openDay}
 use Rattle.book.specs.Layout.{today, tolerance, nextNumber, lots, prices, haircuts, quoteDays, modes, lists, partials, waitingModes, waitingLists, waitingPartials, greatestAges, numbers, requestKinds, sides, givers, takers, basketsOrExposures, amounts, settlements, closings, settledAmounts, partners, pairPartials, cancels, ends, inUse, exposureGivers, exposureTakers, exposureBaskets, exposureClosings, exposureAmounts, positions, spares, termTables, requestTables, keyTables, exposureTables, rowsOf}
@@ -12,13 +13,13 @@ use Rattle.rules.specs.Requests.{isUsed, isFop, isReturn, isPaired, part
 
 -- "today and all stored days are open", "tolerance .. in the ranges": of the book as a whole
 abbrev pub soundHead : State → Bool
-soundHead s = openDay (s today 0) && (between 1 100000000 (s tolerance 0) && between 1 1000000000 (s nextNumber 0))
+soundHead s = openDay (s today 0) && (between 1 greatestTolerance (s tolerance 0) && between 1 greatestNext (s nextNumber 0))
 
 -- of a security: nothing, or its ranges and an open quote day
 abbrev pub soundSecurity : State → ℕ → Bool
 soundSecurity s i =
     cond (securitySetUp s i)
-    (leb (s lots i) 1000000 && (between 1 3000000 (s prices i) && (leb (s haircuts i) 9999 && openDay (s quoteDays i))))
+    (leb (s lots i) greatestLot && (between 1 greatestPrice (s prices i) && (leb (s haircuts i) greatestHaircut && openDay (s quoteDays i))))
     (eqb (s prices i) 0 && (eqb (s haircuts i) 0 && eqb (s quoteDays i) 0))
 
 -- of a participant's profile in force, and of one that waits
@@ -51,10 +52,10 @@ returnNames s i =
 
 -- the kind's own fields: a FOP's basket, amount and closing; a return's exposure and amount
 abbrev pub soundFop : State → ℕ → Bool
-soundFop s i = basketNamed s (s basketsOrExposures i) && (between (s tolerance 0) 1000000000000 (s amounts i) && openOrNone (s closings i))
+soundFop s i = basketNamed s (s basketsOrExposures i) && (between (s tolerance 0) greatestAmount (s amounts i) && openOrNone (s closings i))
 
 abbrev pub soundReturn : State → ℕ → Bool
-soundReturn s i = returnNames s i && (between 1 1000000000000 (s amounts i) && eqb (s closings i) 0)
+soundReturn s i = returnNames s i && (between 1 greatestAmount (s amounts i) && eqb (s closings i) 0)
 
 -- by its kind
 abbrev pub soundKind : State → ℕ → Bool
@@ -112,7 +113,7 @@ soundExposure s e =
     (rowBlank s exposureTables e)
     (eqb (s inUse e) 1
     && (soundParties s (s exposureGivers e) (s exposureTakers e)
-    && (basketNamed s (s exposureBaskets e) && (openOrNone (s exposureClosings e) && leb (s exposureAmounts e) 10000000000000))))
+    && (basketNamed s (s exposureBaskets e) && (openOrNone (s exposureClosings e) && leb (s exposureAmounts e) greatestExposure))))
 
 -- "used exposures have distinct keys", giver, taker, basket and closing: of the row e against the rows before it
 abbrev pub otherKey : State → ℕ → ℕ → Bool
@@ -129,7 +130,7 @@ soundPosition s e i =
 
 -- ".. is at most 500,000,000"
 abbrev pub soundHolding : State → ℕ → ℕ → Bool
-soundHolding s p i = leb (holding s p i) 500000000
+soundHolding s p i = leb (holding s p i) greatestNominal
 
 -- of all securities of an exposure, and of a participant
 abbrev pub soundPositions : State → ℕ → Bool

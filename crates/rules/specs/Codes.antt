@@ -7,6 +7,7 @@ use mathlib.Core.List.{List, [], _∷_, _++_}
 use Prim.Native.Nat.{ℕ, _+_, _*_, _-_, _%_}
 use lib.Dec.{eqb, leb, ltb}
 use lib.ListN.{getD}
+use Rattle.limits.specs.Limits.{greatestNext, greatestNominal}
 use Rattle.laws.specs.Search.{count}
 use Rattle.calendar.specs.Target.{lastDay, openDay, nextOpenDay}
 use Rattle.book.specs.Layout.{today, tolerance, nextNumber, lots, numbers, settledAmounts, exposureGivers, accounts, positions}
@@ -53,7 +54,7 @@ unfoldable pub depositRules : State → List ℕ → List Rule
 depositRules s r =
     noParticipant s (accountOwner r)
     ∷ noSecurity s (accountSecurity r)
-    ∷ rule (ltb 500000000 (holding s (accountOwner r) (accountSecurity r) + nominalIn r)) 11
+    ∷ rule (ltb greatestNominal (holding s (accountOwner r) (accountSecurity r) + nominalIn r)) 11
     ∷ []
 
 -- 5: not set up; "more than the account .. holds"
@@ -66,7 +67,7 @@ withdrawalRules s r =
 
 -- 14: "too few request rows, or numbers above 999,999,999"
 abbrev pub tooFewRows : State → List ℕ → Rule
-tooFewRows s r = rule (ltb (count (λ i. eqb (s numbers i) 0) 256 0) (rowsNeeded s r) || ltb 1000000000 (s nextNumber 0 + rowsNeeded s r)) 14
+tooFewRows s r = rule (ltb (count (λ i. eqb (s numbers i) 0) 256 0) (rowsNeeded s r) || ltb greatestNext (s nextNumber 0 + rowsNeeded s r)) 14
 
 -- 8: "giver equals taker"
 abbrev pub giverIsTaker : List ℕ → Rule

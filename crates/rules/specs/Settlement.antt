@@ -4,6 +4,7 @@ use mathlib.Core.Bool.{Bool, _&&_, _||_, cond}
 use mathlib.Core.List.{List, [], _∷_, _++_}
 use Prim.Native.Nat.{ℕ, _+_, _-_, min}
 use lib.Dec.{eqb, leb, ltb}
+use Rattle.limits.specs.Limits.{greatestExposure}
 use Rattle.laws.specs.Lists.{those, inOrder}
 use Rattle.book.specs.Layout.{today, tolerance, numbers, requestKinds, basketsOrExposures, settlements, settledAmounts, pairPartials, exposureAmounts}
 use Rattle.book.specs.State.{State, put}
@@ -60,7 +61,7 @@ pub data FopCase : Type 0 where
 -- rest settles; else, if both parties allowed partial when they paired and something was found, the value found settles; else nothing moves"
 unfoldable pub fopCase : State → ℕ → ℕ → FopCase
 fopCase s i found =
-    cond (ltb 10000000000000 (s exposureAmounts (exposureOfFop s i) + restOf s i)) waits
+    cond (ltb greatestExposure (s exposureAmounts (exposureOfFop s i) + restOf s i)) waits
     (cond (ltb (restOf s i - found) (s tolerance 0)) whole
     (cond (eqb (s pairPartials i) 1 && ltb 0 found) part nothing))
 

@@ -5,6 +5,7 @@ use mathlib.Core.Bool.{Bool, not, _&&_, _||_}
 use mathlib.Core.List.{[], _∷_, _++_}
 use Prim.Native.Nat.{ℕ, _+_, _*_, _%_}
 use lib.Dec.{eqb, leb, ltb}
+use Rattle.limits.specs.Limits.{greatestAmount, greatestExposure, greatestHaircut, greatestLot, greatestNominal, greatestPrice, greatestTolerance}
 use Rattle.laws.specs.Search.{between, all, ofEach}
 use Rattle.calendar.specs.Target.{openDay}
 use Rattle.book.specs.Layout.{today, tolerance, nextNumber, lots, prices, haircuts, quoteDays, modes, partials, waitingModes, waitingPartials, greatestAges, numbers, requestKinds, sides, givers, takers, basketsOrExposures, amounts, settlements, closings, settledAmounts, partners, ends, exposureGivers, exposureTakers, exposureBaskets, exposureClosings, exposureAmounts, positions, termTables, keyTables}
@@ -24,7 +25,7 @@ daysOpen s =
 
 -- "tolerance and all stored fields lie in the ranges below" (a list, a map and a reference have every value of their bytes): the price's
 abbrev pub priceInRange : State → ℕ → Bool
-priceInRange s i = between 1 1000000 (s lots i) && between 1 3000000 (s prices i) && leb (s haircuts i) 9999
+priceInRange s i = between 1 greatestLot (s lots i) && between 1 greatestPrice (s prices i) && leb (s haircuts i) greatestHaircut
 
 -- the participant's, both of the profile in force and of the one that waits
 abbrev pub participantInRange : State → ℕ → Bool
@@ -33,10 +34,10 @@ participantInRange s p =
 
 -- the FOP's, and the return's
 abbrev pub fopInRange : State → ℕ → Bool
-fopInRange s i = isFop s i && ltb (s basketsOrExposures i) 16 && between (s tolerance 0) 1000000000000 (s amounts i)
+fopInRange s i = isFop s i && ltb (s basketsOrExposures i) 16 && between (s tolerance 0) greatestAmount (s amounts i)
 
 abbrev pub returnInRange : State → ℕ → Bool
-returnInRange s i = isReturn s i && ltb (s basketsOrExposures i) 64 && between 1 1000000000000 (s amounts i)
+returnInRange s i = isReturn s i && ltb (s basketsOrExposures i) 64 && between 1 greatestAmount (s amounts i)
 
 -- what both have
 abbrev pub requestInRange : State → ℕ → Bool
@@ -49,7 +50,7 @@ exposureInRange s e = ltb (s exposureGivers e) 32 && ltb (s exposureTakers e) 32
 -- the whole clause
 abbrev pub fieldsInRange : State → Bool
 fieldsInRange s =
-    between 1 100000000 (s tolerance 0)
+    between 1 greatestTolerance (s tolerance 0)
     && ofEach 64 (securitySetUp s) (priceInRange s)
     && all (participantInRange s) 32 0
     && all (λ b. leb (s greatestAges b) 255) 16 0
@@ -96,7 +97,7 @@ returnsName s = ofEach 256 (isReturn s) (λ i. isExposureOf s (s givers i) (s ta
 
 -- "exposures are at most 10^13"
 abbrev pub exposuresWithin : State → Bool
-exposuresWithin s = all (λ e. leb (s exposureAmounts e) 10000000000000) 64 0
+exposuresWithin s = all (λ e. leb (s exposureAmounts e) greatestExposure) 64 0
 
 -- "used exposures have distinct keys": each from those in the rows before it
 abbrev pub keysDistinct : State → Bool
@@ -118,7 +119,7 @@ zeroHasNoPosition s = ofEach 64 (λ e. eqb (s exposureAmounts e) 0) (λ e. all (
 
 -- "account plus positions of a giver in one security is at most 500,000,000"
 abbrev pub holdingsWithin : State → Bool
-holdingsWithin s = all (λ p. all (λ i. leb (holding s p i) 500000000) 64 0) 32 0
+holdingsWithin s = all (λ p. all (λ i. leb (holding s p i) greatestNominal) 64 0) 32 0
 
 -- the sentence
 abbrev pub soundAsWritten : State → Bool

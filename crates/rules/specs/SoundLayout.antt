@@ -4,6 +4,7 @@ use mathlib.Core.Bool.{Bool, not, _&&_, _||_, cond}
 use mathlib.Core.List.{List}
 use Prim.Native.Nat.{ℕ}
 use lib.Dec.{eqb, leb}
+use Rattle.limits.specs.Limits.{greatestNext}
 use Rattle.laws.specs.Search.{between, all, ofEach}
 use Rattle.book.specs.Layout.{nextNumber, waitingModes, closings, pairPartials, cancels, ends, spares, securityTables, profileTables, waitingTables, basketTables, requestTables, exposureTables, rowsOf}
 use Rattle.book.specs.State.{State, rowBlank}
@@ -38,4 +39,4 @@ marksAgree s =
 
 -- the next request number is at most one above the last, 999,999,999; a change waits only where a profile is in force
 abbrev pub soundLayout : State → Bool
-soundLayout s = between 1 1000000000 (s nextNumber 0) && ofEach 32 (changeWaits s) (participantSetUp s) && unusedBlank s && marksAgree s
+soundLayout s = between 1 greatestNext (s nextNumber 0) && ofEach 32 (changeWaits s) (participantSetUp s) && unusedBlank s && marksAgree s

@@ -5,6 +5,7 @@ use mathlib.Core.List.{List}
 use Prim.Native.Nat.{ℕ, _+_}
 use lib.Dec.{eqb, leb}
 use lib.ListN.{getD}
+use Rattle.limits.specs.Limits.{greatestLot}
 use Rattle.calendar.specs.Target.{openDay}
 use Rattle.valuation.specs.Value.{legalPricing}
 use Rattle.laws.specs.Search.{all}
@@ -31,7 +32,7 @@ isBlank s = eqb (s .lot) 0 && (eqb (s .pricing .price) 0 && (eqb (s .pricing .ha
 
 -- and of one that is: "lot 32 (1 to 1,000,000)", price and haircut in their ranges
 abbrev pub isListed : declared.Security → Bool
-isListed s = leb 1 (s .lot) && (leb (s .lot) 1000000 && legalPricing (s .pricing))
+isListed s = leb 1 (s .lot) && (leb (s .lot) greatestLot && legalPricing (s .pricing))
 
 unfoldable pub legalSecurity : declared.Security → Bool
 legalSecurity s = isBlank s || isListed s

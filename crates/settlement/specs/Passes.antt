@@ -4,6 +4,7 @@
 use mathlib.Core.Path.{_≡_}
 use mathlib.Core.List.{[]}
 use Prim.Native.Nat.{ℕ, _+_, _*_, _≤_}
+use Rattle.limits.specs.Limits.{greatestAmount}
 use Rattle.eligibility.specs.Fresh.{SamePrices}
 use Rattle.book.specs.State.{State}
 use Rattle.facts.specs.Good.{Good}
@@ -31,12 +32,12 @@ allOf kind s t = settleEach (settleBy (wayOf kind)) (dueRows s kind) (begun s t)
 pub record Room (n : ℕ) (t : Totals) : Type 0 where
   pub fops : t .a ≤ n
   pub returns : t .b ≤ n
-  pub cents : t .m ≤ 1000000000000 * n
+  pub cents : t .m ≤ greatestAmount * n
 
 pub record Within (before : Totals) (n : ℕ) (after : Totals) : Type 0 where
   pub fops : after .a ≤ before .a + n
   pub returns : after .b ≤ before .b + n
-  pub cents : after .m ≤ before .m + 1000000000000 * n
+  pub cents : after .m ≤ before .m + greatestAmount * n
 
 -- what settling all pairs of a kind leaves: the definition's state and totals, a good book, and the prices as they were
 pub record Passed (kind : ℕ) (s : State) (t : Totals) (after : State) (total : Totals) : Type 0 where

@@ -5,6 +5,7 @@ use mathlib.Core.Bool.{Bool, true, false, cond}
 use mathlib.Core.List.{[], _∷_, _++_}
 use Prim.Native.Nat.{ℕ, _+_, _-_, _<_}
 use lib.Dec.{eqb, ltb}
+use Rattle.limits.specs.Limits.{greatestExposure}
 use Rattle.book.specs.Layout.{tolerance, requestKinds, basketsOrExposures, pairPartials, exposureAmounts}
 use Rattle.book.specs.State.{State, put}
 use Rattle.rules.specs.Outcome.{Step, Event, settled, returned}
@@ -32,7 +33,7 @@ found s i = pickFor s (exposureOfFop s i) (eligibleFor s (exposureOfFop s i)) (r
 -- what a FOP settles: 0 where it waits or nothing moves
 unfoldable pub fopAmount : State → ℕ → ℕ
 fopAmount s i =
-    cond (ltb 10000000000000 (s exposureAmounts (exposureOfFop s i) + restOf s i)) 0
+    cond (ltb greatestExposure (s exposureAmounts (exposureOfFop s i) + restOf s i)) 0
     (cond (ltb (restOf s i - found s i) (s tolerance 0)) (restOf s i)
     (cond (eqb (s pairPartials i) 1) (found s i) 0))
 
