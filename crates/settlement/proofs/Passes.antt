@@ -25,8 +25,9 @@ use Rattle.due_pairs.specs.Due.{noKey, Collected, leastFrom}
 use Rattle.due_pairs.proofs.Keys.{number-small}
 use Rattle.due_pairs.proofs.Next.{Ahead, ahead-next, none-left, some-left, next-row, next-order, next-fits}
 use Rattle.settlement_laws.specs.Ways.{PairOf, fopSettled, Way, fopWay, wayOf, settleBy, left}
-use Rattle.settlement_laws.proofs.Finding.{due-in, in-due, due-few, due-pair, due-sorted, settles-cases}
+use Rattle.settlement_laws.proofs.Finding.{due-in, in-due, due-few, due-pair, due-sorted}
 use Rattle.settlement_laws.proofs.Keeping.{AsWay, return-way, fop-way, left-holds, by-left, next-good, next-lined, fops-stay, settlement-by}
+use Rattle.settlement_laws.proofs.Ordering.{before-earlier}
 use Rattle.settlement_laws.proofs.Staying.{Lined, lined-start}
 use Rattle.pair_settlement.proofs.Pairs.{pair-fields, kind-of}
 use Rattle.settlement.specs.Passes.{begun, Alike, allOf, Room, Within, Passed}
@@ -108,8 +109,8 @@ ahead-start s kind g = record {
       (λ i j a b h.
       let d = due-in s kind i a in
       let small = number-small s i g (d .below) (due-pair d .used) .1 in
-      ⊎-elim (λ l. omega arith) (λ l. omega arith) (settles-cases s i j h))
-      (due-sorted s g kind);
+      ⊎-elim (λ l. omega arith) (λ l. omega arith) (before-earlier s i j h))
+      (due-sorted s kind g);
 }
 
 -- on the way, with n pairs tried and some rows left

@@ -19,7 +19,8 @@ use Rattle.rules.specs.Settlement.{isDue, settlesBefore, dueRows, bothSettled, 
 use Rattle.facts.specs.Good.{Good}
 use Rattle.facts.proofs.Rows.{Pair, used-paired}
 use Rattle.settlement_laws.specs.Ways.{PairOf, Due, fopSettled}
-use Rattle.settlement_laws.proofs.Finding.{due-in, due-pair, due-later, due-sorted, not-itself}
+use Rattle.settlement_laws.proofs.Finding.{due-in, due-pair, due-later, due-sorted}
+use Rattle.settlement_laws.proofs.Ordering.{not-itself}
 
 -- what tells that a row is due and when, but for the settled amounts of a pair
 pub record Touched (s t : State) (i : ℕ) : Type 0 where
@@ -40,7 +41,7 @@ pub record Lined (s : State) (kind : ℕ) (rows : List ℕ) : Type 0 where
 pub lined-start : (s : State) (kind : ℕ) → Good s → Lined s kind (dueRows s kind)
 lined-start s kind g = record {
   due = due-in s kind;
-  apart = sorted-by (dueRows s kind) (λ i j a b h e. not-itself s i (rw (← e) at h)) (due-sorted s g kind);
+  apart = sorted-by (dueRows s kind) (λ i j a b h e. not-itself s i (rw (← e) at h)) (due-sorted s kind g);
 }
 
 module _ {s t : State} {kind i : ℕ} (g : Good s) (p : PairOf s kind i) (a : Touched s t i) where
