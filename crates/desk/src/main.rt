@@ -4,11 +4,12 @@
 // last one left, and what `write` is handed is the text of what `read` left in the buffer. What `read` and `write` themselves do no
 // contract can say: that is tested, on stdin and stdout beside src/ and by tests/tests/lines.rs.
 ghost use mathlib.Core.Path.{_≡_};
+ghost use mathlib.Core.Bool.{false};
 ghost use Prim.Native.Nat.{_+_, _-_, _≤_, _<_};
 ghost use lib.ListN.{length, take, drop};
 ghost use Rattle.line_text.specs.Buffer.{withText};
 ghost use Rattle.lines.specs.Program.{firstRecord, zeroBook};
-ghost use Rattle.lines.specs.Pieces.{Serves, Ran, isOver, endText};
+ghost use Rattle.lines.specs.Pieces.{Serves, Ran, isOpen, isOver, endText};
 use libc::STDERR_FILENO;
 use libc::STDIN_FILENO;
 use libc::STDOUT_FILENO;
@@ -22,9 +23,10 @@ struct Got {
     failed: bool,
 }
 
-// After a piece: the place of the next line, how many bytes the piece has and how many of them are of records served, the bytes of
-// their lines, whether these are written, and what the read gave.
+// After a piece: how many reads are left, the place of the next line, how many bytes the piece has and how many of them are of records
+// served, the bytes of their lines, whether these are written, and what the read gave.
 struct Session {
+    reads: u64,
     place: u64,
     end: usize,
     taken: usize,
@@ -56,17 +58,19 @@ fn read_more(input: &mut [u8], held: usize) -> Got
 
 // Reads a piece behind what is left of the last one, serves it and writes its lines.
 fn serve_some(book: &mut [u8], input: &mut [u8], text: &mut [u8], s: Session) -> Session
-    requires { ⌜ (length (now input) ≤ 512) × (64512 ≤ length (now text)) × (s .taken ≤ s .end) × (s .end ≤ length (now input)) × (s .place + 512 < 18446744073709551616) ⌝ }
+    requires { ⌜ (length (now input) ≤ 512) × (64512 ≤ length (now text)) × (s .taken ≤ s .end) × (s .end ≤ length (now input)) × (0 < s .reads) × (s .place + 512 < 18446744073709551616) ⌝ }
     ensures { λ r. ⌜ take (s .end - s .taken) (now (input .exit)) ≡ drop (s .taken) (take (s .end) (now (input .entry))) ⌝ }
     ensures { λ r. ⌜ Serves (now (book .entry)) (now (text .entry)) (s .place) (take (r .end) (now (input .exit))) (now (book .exit)) (now (text .exit)) (r .place) (r .taken) (r .waiting) ⌝ }
-    ensures { λ r. ⌜ (0 ≡ firstRecord (drop (r .taken) (take (r .end) (now (input .exit))))) × (r .end ≡ (s .end - s .taken) + r .count) × (r .taken ≤ r .end) × (r .end ≤ length (now (input .entry))) × (r .place ≤ s .place + 512) ⌝ }
+    ensures { λ r. ⌜ (0 ≡ firstRecord (drop (r .taken) (take (r .end) (now (input .exit))))) × (r .end ≡ (s .end - s .taken) + r .count) × (r .taken ≤ r .end) × (r .end ≤ length (now (input .entry))) × (r .place ≤ s .place + 512) × (r .reads + 1 ≡ s .reads) ⌝ }
 {
+    let reads = s.reads - 1;
     let held = lines::move_to_front(input, s.taken, s.end);
     let got = read_more(input, held);
     let end = held + got.count;
     let p = lines::serve(book, &input[..end], text, s.place);
     let written = write_text(text, p.waiting);
     Session {
+        reads,
         place: p.place,
         end,
         taken: p.taken,
@@ -90,7 +94,11 @@ fn is_over(input: &[u8], s: Session) -> bool
 // Is the next piece to be read?
 fn is_open(input: &[u8], s: Session) -> bool
     requires { ⌜ (s .taken ≤ s .end) × (s .end ≤ length (now input)) ⌝ }
+    ensures { λ r. ⌜ r ≡ isOpen (s .reads) (s .written) (s .failed) (isOver (s .failed) (s .count) (drop (s .taken) (take (s .end) (now (input .entry))))) ⌝ }
 {
+    if s.reads == 0 {
+        return false;
+    }
     if !s.written {
         return false;
     }
@@ -104,9 +112,11 @@ fn is_open(input: &[u8], s: Session) -> bool
 fn serve(book: &mut [u8], input: &mut [u8], text: &mut [u8]) -> Session
     requires { ⌜ (now book ≡ zeroBook) × (length (now input) ≤ 512) × (64512 ≤ length (now text)) ⌝ }
     ensures { λ r. ⌜ Ran (now (book .exit)) (drop (r .taken) (take (r .end) (now (input .exit)))) (r .place) (r .failed) (r .count) ⌝ }
+    ensures { λ r. ⌜ false ≡ isOpen (r .reads) (r .written) (r .failed) (isOver (r .failed) (r .count) (drop (r .taken) (take (r .end) (now (input .exit))))) ⌝ }
     ensures { λ r. ⌜ (r .taken ≤ r .end) × (r .end ≤ length (now (input .entry))) ⌝ }
 {
     let mut s = Session {
+        reads: READS,
         place: 1,
         end: 0,
         taken: 0,
@@ -115,14 +125,12 @@ fn serve(book: &mut [u8], input: &mut [u8], text: &mut [u8]) -> Session
         count: 0,
         failed: false,
     };
-    let mut more = true;
-    let mut reads = READS;
-    while reads > 0 && more {
+    loop {
         s = serve_some(book, input, text, s);
-        more = is_open(input, s);
-        reads -= 1;
+        if !is_open(input, s) {
+            return s;
+        }
     }
-    s
 }
 
 fn report_read() {

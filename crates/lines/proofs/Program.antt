@@ -17,7 +17,7 @@ use Rattle.line_text.specs.Text.{lastLine}
 use Rattle.line_text.specs.Buffer.{withText}
 use Rattle.line_text.proofs.Texts.{text-none}
 use Rattle.lines.specs.Program.{recordLength, firstRecord, front, behind, frontLine, textWithin, textOf, zeroBook, programText}
-use Rattle.lines.specs.Pieces.{servedWithin, servedAll, Serves, isAwaited, isOver, Reached, Ran, endText}
+use Rattle.lines.specs.Pieces.{servedWithin, servedAll, Serves, isAwaited, isOver, isOpen, Reached, Ran, endText}
 use Rattle.lines.proofs.Serving.{served-more, no-more}
 
 -- a whole record stays whole, whatever comes behind it
@@ -158,6 +158,34 @@ ran-on input input′ end taken end′ failed′ count′ r kept s none more =
     let on = reached-on (r .reached) (drop (end - taken) piece) piece (sym (take-append-drop (end - taken) piece) ∙ ap (λ (z : List ℕ). z ++ drop (end - taken) piece) front-kept) in
     let reached = rw (← s .books, ← s .takes, ← s .places) at on in
     record { input = _; written = _; reached = reached; ended = reached-ends reached failed′ count′ none }
+
+-- is the next piece to be read, by the program's tests
+pub no-reads : (reads : ℕ) (w f o : Bool) → reads ≡ 0 → false ≡ isOpen reads w f o
+unfolding isOpen
+no-reads reads true false true h = refl
+no-reads reads true false false h = rw h
+no-reads reads true true o h = refl
+no-reads reads false f o h = refl
+
+pub not-written : (reads : ℕ) (w f o : Bool) → not w ≡ true → false ≡ isOpen reads w f o
+unfolding isOpen
+not-written reads w f o h = rw (not-true w h)
+
+pub has-failed : (reads : ℕ) (w f o : Bool) → not w ≡ false → f ≡ true → false ≡ isOpen reads w f o
+unfolding isOpen
+has-failed reads w f o h g = rw (not-false w h, g)
+
+pub more-open : (reads : ℕ) (w f o : Bool) {t : Bool} → (reads ≡ 0 → ⊥) → not w ≡ false → f ≡ false → t ≡ o → not t ≡ isOpen reads w f o
+unfolding isOpen
+more-open reads w f true n h g e = rw (not-false w h, g, e)
+more-open reads w f false n h g e = rw (not-false w h, g, e, lt-ltb 0 reads (omega arith))
+
+pub closed : (o : Bool) {t : Bool} → t ≡ o → not t ≡ true → false ≡ o
+closed o e h = sym (not-true _ h) ∙ e
+
+pub open-reads : (reads : ℕ) (w f o : Bool) {t : Bool} → t ≡ isOpen reads w f o → not t ≡ false → 0 < reads
+open-reads zero w f o e h = absurd (true≢false (sym (not-false _ h) ∙ e ∙ sym (no-reads zero w f o refl)))
+open-reads (suc n) w f o e h = omega arith
 
 -- what is put at the end, by the program's tests: nothing where a write failed or more is to be read, else the last line
 pub end-unwritten : (l : List ℕ) (w o : Bool) (place : ℕ) (rest : List ℕ) → not w ≡ true → l ≡ withText l 0 (endText w o place rest)

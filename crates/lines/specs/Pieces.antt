@@ -57,6 +57,10 @@ isOver true count rest = false
 isOver false zero rest = true
 isOver false (suc n) rest = not (isAwaited rest)
 
+-- Is the next piece to be read? So it is where all was written, the last read did not fail, the input is not over, and reads are left.
+unfoldable pub isOpen : ℕ → Bool → Bool → Bool → Bool
+isOpen reads written failed over = written && not failed && not over && ltb 0 reads
+
 -- What holds between two reads, of all that was read and all that was handed to be written: with the text of what is held and of what is
 -- still to come, whatever that is, it is the text of the whole input.
 pub record Reached (input written book held : List ℕ) (place : ℕ) : Type 0 where

@@ -2,43 +2,30 @@
 -- Assumes nothing.
 use mathlib.Core.Path.{_≡_, refl}
 use mathlib.Core.Bool.{false}
-use Prim.Native.Nat.{_+_, _*_, _≤_}
+use Prim.Native.Nat.{_+_, _*_, _≤_, _<_}
 use native.Mathlib.Omega.{arith}
 use lib.ListN.{length, take, drop}
 use borrow.Author.Needs.{needs}
 use Rattle.lines.specs.Pieces.{Ran}
-use Rattle.lines.proofs.Program.{ran-begins, ran-on}
+use Rattle.lines.proofs.Program.{ran-begins, ran-on, closed, open-reads}
 use Rattle.desk.proofs.serve.Statement.{statement}
 use Rattle.desk.proofs.serve.Tie as tie
 
 abbrev Inv-loop : tie.InvT-loop
-Inv-loop book₀ input₀ text₀ s₀ more₀ reads₀ book input text s more reads =
-    (s .taken ≤ s .end) × (s .end ≤ length input) × (s .place + 512 * reads ≤ 18446744073709551615) × (length book ≡ length book₀) × (length input ≡ length input₀) × (length text ≡ length text₀) × Ran book (drop (s .taken) (take (s .end) input)) (s .place) (s .failed) (s .count)
+Inv-loop book₀ input₀ text₀ s₀ book input text s =
+    (s .taken ≤ s .end) × (s .end ≤ length input) × (0 < s .reads) × (s .place + 512 * s .reads ≤ 18446744073709551615) × (length book ≡ length book₀) × (length input ≡ length input₀) × (length text ≡ length text₀) × Ran book (drop (s .taken) (take (s .end) input)) (s .place) (s .failed) (s .count)
 
 abbrev μ-loop : tie.MeasureT-loop
-μ-loop book₀ input₀ text₀ s₀ more₀ reads₀ book input text s more reads = reads
+μ-loop book₀ input₀ text₀ s₀ book input text s = s .reads
 
 loop-holds : tie.Need-loop-holds Inv-loop μ-loop
-loop-holds c = (omega arith, omega arith, omega arith, refl, refl, refl, rw (c .before .before .before .pre .0) (ran-begins false 0))
+loop-holds c = (omega arith, omega arith, omega arith, omega arith, refl, refl, refl, rw (c .before .before .before .pre .0) (ran-begins false 0))
 
 serve-some-requires : tie.Need-serve-some-requires Inv-loop μ-loop
 serve-some-requires c κs = search needs
 
 is-open-requires : tie.Need-is-open-requires Inv-loop μ-loop
 is-open-requires c κs = search needs
-
-sub-reads : tie.Need-sub-reads Inv-loop μ-loop
-sub-reads c = search needs
-
-loop-less : tie.Need-loop-less Inv-loop μ-loop
-loop-less c = search needs
-
-loop-again : tie.Need-loop-again Inv-loop μ-loop
-loop-again c =
-    let l = c .before .before .before .before .before .before .before .before .before .before .before .before .before .before .loop in
-    let one = c .before .before .before .before .before .before .before .before .serve-some in
-    let ran = ran-on (l .input) (one .last .1 .0) (l .s .end) (l .s .taken) (one .result .end) (one .result .failed) (one .result .count) (l .inv .6) (one .ensures .0) (one .ensures .1 .0) (one .ensures .1 .1 .0) (one .ensures .1 .1 .1) in
-    (omega arith, search needs, omega arith, search needs, search needs, search needs, ran)
 
 same-length : tie.Need-same-length Inv-loop μ-loop
 same-length c = search needs
@@ -50,19 +37,22 @@ same-length-3 : tie.Need-same-length-3 Inv-loop μ-loop
 same-length-3 c = search needs
 
 returns : tie.Need-returns Inv-loop μ-loop
-returns c = let l = c .before .before .loop in (l .inv .6, (l .inv .0, omega arith))
+returns c =
+    let l = c .before .before .before .before .before .before .before .before .before .before .before .before .before .loop in
+    let one = c .before .before .before .before .before .before .before .before .before .serve-some in
+    let ran = ran-on (l .input) (one .last .1 .0) (l .s .end) (l .s .taken) (one .result .end) (one .result .failed) (one .result .count) (l .inv .7) (one .ensures .0) (one .ensures .1 .0) (one .ensures .1 .1 .0) (one .ensures .1 .1 .1) in
+    (ran, (closed _ (c .before .is-open .ensures) (c .if1 .taken), (omega arith, omega arith)))
 
-same-length-4 : tie.Need-same-length-4 Inv-loop μ-loop
-same-length-4 c = search needs
+loop-less : tie.Need-loop-less Inv-loop μ-loop
+loop-less c = search needs
 
-same-length-5 : tie.Need-same-length-5 Inv-loop μ-loop
-same-length-5 c = search needs
-
-same-length-6 : tie.Need-same-length-6 Inv-loop μ-loop
-same-length-6 c = search needs
-
-returns-2 : tie.Need-returns-2 Inv-loop μ-loop
-returns-2 c = let l = c .before .loop in (l .inv .6, (l .inv .0, omega arith))
+loop-again : tie.Need-loop-again Inv-loop μ-loop
+loop-again c =
+    let l = c .before .before .before .before .before .before .before .before .before .before .before .before .before .loop in
+    let one = c .before .before .before .before .before .before .before .before .before .serve-some in
+    let ran = ran-on (l .input) (one .last .1 .0) (l .s .end) (l .s .taken) (one .result .end) (one .result .failed) (one .result .count) (l .inv .7) (one .ensures .0) (one .ensures .1 .0) (one .ensures .1 .1 .0) (one .ensures .1 .1 .1) in
+    let left = open-reads _ _ _ _ (c .before .is-open .ensures) (c .if1 .left) in
+    (omega arith, search needs, left, omega arith, search needs, search needs, search needs, ran)
 
 pub serve-spec : {M : Type 1} → statement M
 serve-spec =
@@ -73,14 +63,9 @@ serve-spec =
     loop-holds
     serve-some-requires
     is-open-requires
-    sub-reads
-    loop-less
-    loop-again
     same-length
     same-length-2
     same-length-3
     returns
-    same-length-4
-    same-length-5
-    same-length-6
-    returns-2)
+    loop-less
+    loop-again)

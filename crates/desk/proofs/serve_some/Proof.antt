@@ -8,6 +8,9 @@ use borrow.Author.Needs.{needs}
 use Rattle.desk.proofs.serve_some.Statement.{statement}
 use Rattle.desk.proofs.serve_some.Tie as tie
 
+sub-reads : tie.Need-sub-reads
+sub-reads c = search needs
+
 move-to-front-requires : tie.Need-move-to-front-requires
 move-to-front-requires c κs = search needs
 
@@ -47,18 +50,19 @@ same-length-3 c = search needs
 
 returns : tie.Need-returns
 returns c =
-    let s = c .before .before .before .before .before .before .before .before .before .before .before .before .before .before .before .before .before .before .before .before .before .before in
+    let s = c .before .before .before .before .before .before .before .before .before .before .before .before .before .before .before .before .before .before .before .before .before .before .before in
     let move = c .before .before .before .before .before .before .before .before .before .before .before .before .before .before .before .before .before .move-to-front in
     let read = c .before .before .before .before .before .before .before .before .before .before .before .before .before .read-more in
     let serve = c .before .before .before .before .before .before .serve in
     let size = length-take-le (move .result + read .result .count) (read .last .0) (omega arith) in
     let held : move .result ≡ s .args .s .end - s .args .s .taken = omega arith in
-    (rw held at (read .ensures .0 ∙ move .ensures .1), (serve .ensures .0, (serve .ensures .1 .0, omega arith, omega arith, omega arith, omega arith)))
+    (rw held at (read .ensures .0 ∙ move .ensures .1), (serve .ensures .0, (serve .ensures .1 .0, omega arith, omega arith, omega arith, omega arith, omega arith)))
 
 pub serve-some-spec : {M : Type 1} → statement M
 serve-some-spec =
     tie.close
     (tie.spec
+    sub-reads
     move-to-front-requires
     read-more-requires
     add-end
