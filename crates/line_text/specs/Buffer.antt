@@ -1,4 +1,4 @@
--- How the code holds answers and texts: nothing here is part of what the program prints.
+-- How the code holds answers and texts: what code and proofs need, no part of what the program prints.
 -- Assumes nothing.
 use mathlib.Core.List.{List, _++_}
 use Prim.Native.Nat.{ℕ, _+_}

@@ -2,7 +2,7 @@
 -- what comes behind, is the text of the whole.
 -- Assumes nothing.
 use mathlib.Core.Path.{_≡_, refl, sym, ap, _∙_}
-use mathlib.Core.Bool.{Bool, true, false, true≢false, false≢true, not, cond}
+use mathlib.Core.Bool.{Bool, true, false, true≢false, false≢true, not}
 use mathlib.Core.List.{List, [], _∷_, _++_, append-nil, append-assoc}
 use mathlib.Core.Logic.{⊎-elim}
 use Prim.Native.Nat.{ℕ, zero, suc, _+_, _-_, _≤_, _<_}
@@ -18,7 +18,6 @@ use Rattle.line_text.specs.Buffer.{withText}
 use Rattle.line_text.proofs.Texts.{text-none}
 use Rattle.lines.specs.Program.{recordLength, firstRecord, front, behind, frontLine, textWithin, textOf, zeroBook, programText}
 use Rattle.lines.specs.Pieces.{servedWithin, servedAll, Serves, isAwaited, isOver, isOpen, Reached, Ran, endText}
-use Rattle.lines.proofs.Serving.{served-more, no-more}
 
 -- a whole record stays whole, whatever comes behind it
 whole-stays : (piece later : List ℕ) → 0 < firstRecord piece → (firstRecord (piece ++ later) ≡ firstRecord piece) × (firstRecord piece ≤ length piece)

@@ -16,12 +16,12 @@ use Rattle.lines.specs.Program.{firstRecord, front, behind, frontLine}
 use Rattle.lines.specs.Pieces.{Served, served, before, servedWithin, servedAll, Serves}
 
 -- one record more
-pub served-more : (n : ℕ) (b piece : List ℕ) (place : ℕ) → 0 < firstRecord piece → servedWithin (suc n) b place piece ≡ before (frontLine b place piece) (firstRecord piece) (servedWithin n (callBook b (front piece)) (place + 1) (behind piece))
+served-more : (n : ℕ) (b piece : List ℕ) (place : ℕ) → 0 < firstRecord piece → servedWithin (suc n) b place piece ≡ before (frontLine b place piece) (firstRecord piece) (servedWithin n (callBook b (front piece)) (place + 1) (behind piece))
 unfolding servedWithin
 served-more n b piece place h = rw (lt-ltb 0 (firstRecord piece) h)
 
 -- nothing is served where no record stands at the front
-pub no-more : (n : ℕ) (b piece : List ℕ) (place : ℕ) → 0 ≡ firstRecord piece → servedWithin n b place piece ≡ served b [] 0 place
+no-more : (n : ℕ) (b piece : List ℕ) (place : ℕ) → 0 ≡ firstRecord piece → servedWithin n b place piece ≡ served b [] 0 place
 unfolding servedWithin
 no-more zero b piece place h = refl
 no-more (suc n) b piece place h = rw (le-ltb 0 (firstRecord piece) (omega arith))

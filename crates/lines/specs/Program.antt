@@ -1,4 +1,4 @@
--- Document 01, "The program's lines": the text that the program prints for a whole input. What a line's bytes are says line_text's Text.
+-- Document 01, "The program's lines": the text that the program prints for a whole input. The bytes of a line are in line_text's Text.antt.
 -- Assumes nothing.
 use mathlib.Core.Bool.{cond}
 use mathlib.Core.List.{List, [], _∷_, _++_}
@@ -31,8 +31,8 @@ behind input = drop (firstRecord input) input
 abbrev pub frontLine : List ℕ → ℕ → List ℕ → List ℕ
 frontLine book place input = lineOf place (getD input 0 0) (callAnswer book (front input))
 
--- "prints a line for each", each call getting the book that the last one left; "a cut or unknown record prints code 3 and ends it".
--- Of at most n records.
+-- "prints a line for each": that of the record at the front, then the text of what is behind it, with the book that its call left; "a cut or
+-- unknown record prints code 3 and ends it". Of at most n records.
 unfoldable pub textWithin : ℕ → List ℕ → ℕ → List ℕ → List ℕ
 textWithin zero book place input = []
 textWithin (suc n) book place input =
@@ -40,7 +40,7 @@ textWithin (suc n) book place input =
     (frontLine book place input ++ textWithin n (callBook book (front input)) (place + 1) (behind input))
     (lastLine place input)
 
--- the text from a book and a place on: no input has more records than bytes
+-- the text from a book and a place on; an input has no more records than bytes
 abbrev pub textOf : List ℕ → ℕ → List ℕ → List ℕ
 textOf book place input = textWithin (length input) book place input
 
