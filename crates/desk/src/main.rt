@@ -1,8 +1,9 @@
 // The desk's program (document 01, "The program's lines"): reads standard input piece by piece and writes what the crate `lines`
 // makes of it.
-// Proved here: what was held of a piece stands in front of the next one, each piece is served once, with the book and the place that the
-// last one left, and what `write` is handed is the text of what `read` left in the buffer. What `read` and `write` themselves do no
-// contract can say: that is tested, on stdin and stdout beside src/ and by tests/tests/lines.rs.
+// Proved here: what was held of a piece stands in front of what is read next, each piece is served once, with the book and the place that
+// the last one left, and its lines stand at the front of the text (`serve_some`); so the lines of all pieces and the last line are the
+// text of the whole input (`serve`, `finish`). No contract can say what `read` gives, or that a text is handed to `write` and written: that
+// is tested, on stdin and stdout beside src/ and by tests/tests/lines.rs.
 ghost use mathlib.Core.Path.{_≡_};
 ghost use mathlib.Core.Bool.{false};
 ghost use Prim.Native.Nat.{_+_, _-_, _≤_, _<_};
