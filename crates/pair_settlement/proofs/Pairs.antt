@@ -14,7 +14,7 @@ use Rattle.rules.specs.Settlement.{bothSettled}
 use Rattle.facts.specs.Good.{Good}
 use Rattle.facts.proofs.Rows.{Fields, Kind, fop, return, Paired, used-fields, used-paired, used-exposure}
 use Rattle.settlement_laws.proofs.Pairs.{amount-le}
-use Rattle.eligibility.proofs.Fresh.{columns-same}
+use Rattle.facts.proofs.Stock.{columns-same}
 use Rattle.bonds.specs.Moves.{Pledging, Freeable}
 use Rattle.settlement_laws.specs.Ways.{PairOf}
 use Rattle.pair_settlement.specs.Pairs.{Settleable}

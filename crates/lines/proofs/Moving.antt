@@ -2,12 +2,12 @@
 -- Assumes nothing.
 use mathlib.Core.Path.{_≡_, refl, sym, ap, _∙_}
 use mathlib.Core.List.{List}
-use Prim.Native.Nat.{ℕ, suc, _+_, _<_}
+use Prim.Native.Nat.{ℕ, suc, _+_, _-_, _≤_, _<_}
 use native.Mathlib.Nat.{add-comm}
 use native.Mathlib.Numerals.{add-one}
 use native.Mathlib.Omega.{arith}
 use lib.ListN.{length, getD, set, take, drop, length-set, length-drop}
-use lib.Seq.{take-suc, take-suc-set, drop-set-lt, drop-drop, getD-drop}
+use lib.Seq.{take-suc, take-suc-set, drop-set-lt, drop-drop, getD-drop, length-take-le, take-add, drop-at}
 
 -- the first i bytes are those from the place `from` on, and those behind stand as they did
 pub record Moved (old : List ℕ) (from : ℕ) (new : List ℕ) (i : ℕ) : Type 0 where
@@ -38,3 +38,11 @@ moved-next {old} {new} {from} {i} m h =
       front = rw (add-one, take-suc-set new i moved within, take-suc (drop from old) i 0 within-rest, m .front, unmoved m);
       behind = rw (add-one, drop-set-lt (suc i) new i moved (omega arith), ← add-one, ← drop-drop 1 i new, ← drop-drop 1 i old, m .behind);
     }
+
+-- the bytes between two places
+pub part-between : (from end : ℕ) (l : List ℕ) → from ≤ end → end ≤ length l → take (end - from) (drop from l) ≡ drop from (take end l)
+part-between from end l h k =
+    let size : length (take from l) ≡ from = length-take-le from l (omega arith) in
+    let whole : from + (end - from) ≡ end = omega arith in
+    let split = take-add from (end - from) l in
+    sym (ap (drop from) (rw whole at split) ∙ drop-at (take from l) (take (end - from) (drop from l)) from size)
