@@ -1,15 +1,13 @@
 -- The exported call: the lent answer, and what its parts count on.
 -- Assumes nothing.
 use mathlib.Core.Path.{_≡_}
-use mathlib.Core.Bool.{true, not, _&&_, cond}
+use mathlib.Core.Bool.{true}
 use mathlib.Core.List.{List, [], _∷_}
 use Prim.Native.Nat.{ℕ, _<_}
-use lib.Dec.{eqb}
 use lib.ListN.{length}
 use Rattle.book.specs.Layout.{bookLength}
 use Rattle.book.specs.State.{state}
 use Rattle.records.specs.Writing.{areLegal}
-use Rattle.rules.specs.Call.{opens}
 use Rattle.rules.specs.Codes.{codeOf}
 use Rattle.rules.specs.Outcome.{Answer}
 use Rattle.rules.specs.Sound.{sound}
@@ -17,10 +15,6 @@ use Rattle.rules.specs.Sound.{sound}
 -- "The answer is code, A, B, M."
 abbrev pub numbersOf : Answer → List ℕ
 numbersOf a = a .code ∷ a .a ∷ a .b ∷ a .m ∷ []
-
--- 1: book of another length; 2: book not sound, not tested where the record is an opening; else 0
-abbrev pub damage : List ℕ → List ℕ → ℕ
-damage book bytes = cond (not (eqb (length book) bookLength)) 1 (cond (not (opens bytes) && not (sound (state book))) 2 0)
 
 -- a record that was read, on a book of the right length that is sound where the record is no opening
 pub record Taken (b : List ℕ) (k : ℕ) (r : List ℕ) : Type 0 where

@@ -2,10 +2,10 @@
 ghost use mathlib.Core.Path.{_≡_};
 ghost use Prim.Native.Nat.{_<_};
 ghost use Rattle.book.specs.State.{state};
-ghost use Rattle.rules.specs.Call.{stepOf, opens, callAnswer, callBook};
+ghost use Rattle.rules.specs.Call.{stepOf, callAnswer, callBook};
 ghost use Rattle.rules.specs.Codes.{codeOf};
 ghost use Rattle.totals.specs.Totals.{totalsOf};
-ghost use Rattle.engine.specs.Entry.{numbersOf, damage, Taken, Accepted};
+ghost use Rattle.engine.specs.Entry.{numbersOf, Taken, Accepted};
 use record_kinds::Fields;
 use totals::Totals;
 
@@ -14,12 +14,17 @@ fn code_of(book: &[u8], kind: u64, fields: &Fields) -> u64
     requires { ⌜ Taken (now book) kind (now fields) ⌝ }
     ensures { λ r. ⌜ r ≡ codeOf (state (now (book .entry))) kind (now (fields .entry)) ⌝ }
 {
+    if kind < 6 {
+        return match kind {
+            0 => setup::opening_code(fields),
+            1 => setup::price_code(book, fields),
+            3 => setup::basket_code(book, fields),
+            4 => accounts::deposit_code(book, fields),
+            5 => accounts::withdrawal_code(book, fields),
+            _ => 0,
+        };
+    }
     match kind {
-        0 => setup::opening_code(fields),
-        1 => setup::price_code(book, fields),
-        3 => setup::basket_code(book, fields),
-        4 => accounts::deposit_code(book, fields),
-        5 => accounts::withdrawal_code(book, fields),
         6 => requests::fop_code(book, fields),
         7 => requests::return_code(book, fields),
         8 => requests::cancel_code(book, fields),
@@ -64,41 +69,15 @@ fn take_step(book: &mut [u8], kind: u64, fields: &Fields) -> Totals
     }
 }
 
-// Is the first byte that of an opening?
-fn is_opening(bytes: &[u8]) -> bool
-    ensures { λ r. ⌜ r ≡ opens (now (bytes .entry)) ⌝ }
-{
-    if bytes.len() == 0 {
-        return false;
-    }
-    bytes[0] == 0
-}
-
-// 1 for a book of another length, 2 for one that is not sound where the record is no opening, else 0.
-fn damage_code(book: &[u8], bytes: &[u8]) -> u64
-    ensures { λ r. ⌜ r ≡ damage (now (book .entry)) (now (bytes .entry)) ⌝ }
-{
-    if book.len() != 49152 {
-        return 1;
-    }
-    if is_opening(bytes) {
-        return 0;
-    }
-    if soundness::is_sound(book) {
-        return 0;
-    }
-    2
-}
-
 // Applies a record to a book. A refused call has its code in the answer and 0 in its other numbers, and leaves the book as it was.
 #[no_mangle]
 pub extern "C" fn engine_call(book: &mut [u8], bytes: &[u8], answer: &mut [u64; 4])
     ensures { λ _. ⌜ now (book .exit) ≡ callBook (now (book .entry)) (now (bytes .entry)) ⌝ }
     ensures { λ _. ⌜ now (answer .exit) ≡ numbersOf (callAnswer (now (book .entry)) (now (bytes .entry))) ⌝ }
 {
-    let damage = damage_code(book, bytes);
-    if damage != 0 {
-        *answer = [damage, 0, 0, 0];
+    let damaged = damage::damage_code(book, bytes);
+    if damaged != 0 {
+        *answer = [damaged, 0, 0, 0];
         return;
     }
     let reading = records::records_read(bytes);

@@ -1,76 +1,104 @@
--- The whole answer of each read: by a damaged book, by the rules, and accepted; and what an accepted read says of its arguments.
+-- The whole answer of each read: by a damaged book, by the rules, and accepted.
 -- Assumes nothing.
-use mathlib.Core.Path.{_≡_, refl, sym, _∙_}
-use mathlib.Core.Bool.{_&&_, or-true}
+use mathlib.Core.Path.{_≡_, refl, sym, ap, _∙_}
+use mathlib.Core.Bool.{Bool, true, false, not, _&&_, _||_, cond}
 use mathlib.Core.List.{List, [], _∷_}
 use Prim.Native.Nat.{ℕ, _+_, _*_, _<_}
-use native.Mathlib.Decide.{decLt}
 use native.Mathlib.Omega.{arith}
-use lib.Dec.{eqb}
-use borrow.Author.Tests.{ne-eqb, le-leb, lt-leb}
+use lib.Dec.{eqb, leb}
+use lib.ListN.{length, replicate}
+use borrow.Author.Tests.{ne-eqb, lt-leb, not-false}
 use Rattle.laws.specs.Filled.{filled}
 use Rattle.baskets.specs.Report.{report}
 use Rattle.baskets.specs.declared.Report as declared
-use Rattle.book.specs.Layout.{numbers, maps, greatestAges, accounts, positions, exposureGivers, exposureTakers, exposureBaskets, exposureClosings, exposureAmounts}
+use Rattle.book.specs.Layout.{bookLength, rowsOf, lots, modes, numbers, inUse, maps, greatestAges, accounts, positions, exposureGivers, exposureTakers, exposureBaskets, exposureClosings, exposureAmounts}
 use Rattle.book.specs.State.{State, state}
-use Rattle.rules.specs.Outcome.{lowest}
-use Rattle.rules.specs.Reads.{account, position, exposure, request, basket, rowOf, readRules, readAnswer}
-use Rattle.rules.specs.Requests.{isUsed}
+use Rattle.rules.specs.Outcome.{rule, lowest}
+use Rattle.rules.specs.Reads.{Read, account, position, exposure, request, basket, rowOf, rowRules, nominalRules, readRules, readCode, readValues, readAnswer}
+use Rattle.rules.specs.Requests.{isUsed, isInUse}
+use Rattle.rules.specs.Sound.{sound}
+use Rattle.rules.specs.Stock.{participantSetUp, securitySetUp, basketSetUp}
 use Rattle.facts.proofs.Searches.{least-le}
-use Rattle.reads.specs.Entries.{damageCode, requestNumber}
-use Rattle.reads.proofs.Returns.{book-refused, read-refused, read-accepted}
+use Rattle.damage.specs.Damage.{bookCode}
+use Rattle.damage.proofs.Damage.{passes, damaged-code, passed-code}
+use Rattle.reads.specs.Entries.{nominalCode, nominalAnswer, requestNumber}
+use Rattle.reads.proofs.Returns.{row-in}
 
--- a read that is accepted names numbers in their ranges
-module _ (s : State) (x i : ℕ) {c : ℕ} where
-  pub account-in : c ≡ lowest (readRules s (account x i)) → c ≡ 0 → (x < 32) × (i < 64)
-  account-in e z = (
-    elim (decLt x 32) [ yes l ↦ l | no l ↦ absurd (let o : _≡_ {A = ℕ} 4 0 = rw (le-leb 32 x (omega arith)) at (sym e ∙ z) in omega arith) ],
-    elim (decLt i 64) [ yes l ↦ l | no l ↦ absurd (let o : _≡_ {A = ℕ} 4 0 = rw (le-leb 64 i (omega arith), or-true) at (sym e ∙ z) in omega arith) ],
-  )
+-- what a book without 1 and 2 is
+module _ (b : List ℕ) {x : ℕ} (e : x ≡ bookCode b false) (z : x ≡ 0) where
+  pub accepted-length : length b ≡ bookLength
+  accepted-length = passes b false e z .long
 
-  pub position-in : c ≡ lowest (readRules s (position x i)) → c ≡ 0 → (x < 64) × (i < 64)
-  position-in e z = (
-    elim (decLt x 64) [ yes l ↦ l | no l ↦ absurd (let o : _≡_ {A = ℕ} 4 0 = rw (le-leb 64 x (omega arith)) at (sym e ∙ z) in omega arith) ],
-    elim (decLt i 64) [ yes l ↦ l | no l ↦ absurd (let o : _≡_ {A = ℕ} 4 0 = rw (le-leb 64 i (omega arith), or-true) at (sym e ∙ z) in omega arith) ],
-  )
+  pub accepted-sound : sound (state b) ≡ true
+  accepted-sound = not-false (sound (state b)) (passes b false e z .no-damage)
 
-module _ (s : State) (x : ℕ) {c : ℕ} where
-  pub exposure-in : c ≡ lowest (readRules s (exposure x)) → c ≡ 0 → x < 64
-  exposure-in e z = elim (decLt x 64) [ yes l ↦ l | no l ↦ absurd (let o : _≡_ {A = ℕ} 4 0 = rw (le-leb 64 x (omega arith)) at (sym e ∙ z) in omega arith) ]
+-- the whole answer by its code
+abbrev answerBy : List ℕ → Read → ℕ → List ℕ
+answerBy b q c = c ∷ cond (eqb c 0) (readValues (state b) q) (replicate (length (readValues (state b) q)) 0)
 
-  pub basket-in : c ≡ lowest (readRules s (basket x)) → c ≡ 0 → x < 16
-  basket-in e z = elim (decLt x 16) [ yes l ↦ l | no l ↦ absurd (let o : _≡_ {A = ℕ} 4 0 = rw (le-leb 16 x (omega arith)) at (sym e ∙ z) in omega arith) ]
+module _ (b : List ℕ) (q : Read) where
+  by-code : {c : ℕ} → readCode b q ≡ c → answerBy b q c ≡ readAnswer b q
+  unfolding readAnswer
+  by-code h = ap (answerBy b q) (sym h)
+
+  refused : {c : ℕ} → readCode b q ≡ c → (c ≡ 0 → ⊥) → c ∷ replicate (length (readValues (state b) q)) 0 ≡ readAnswer b q
+  refused {c} h n = rw (ne-eqb c 0 n) at (by-code h)
+
+  module _ {x : ℕ} (e : x ≡ bookCode b false) where
+    damaged : (x ≡ 0 → ⊥) → x ∷ replicate (length (readValues (state b) q)) 0 ≡ readAnswer b q
+    unfolding readCode
+    damaged n = refused (damaged-code b false (lowest (readRules (state b) q)) e n) n
+
+    module _ (z : x ≡ 0) {c : ℕ} (g : c ≡ lowest (readRules (state b) q)) where
+      code-is : readCode b q ≡ c
+      unfolding readCode
+      code-is = passed-code b false (lowest (readRules (state b) q)) (passes b false e z) ∙ sym g
+
+      by-rules : answerBy b q c ≡ readAnswer b q
+      by-rules = by-code code-is
+
+      read-refused : (c ≡ 0 → ⊥) → c ∷ replicate (length (readValues (state b) q)) 0 ≡ readAnswer b q
+      read-refused n = refused code-is n
+
+      read-accepted : c ≡ 0 → 0 ∷ readValues (state b) q ≡ readAnswer b q
+      read-accepted o = rw o at by-rules
 
 -- a damaged book
-module _ (b : List ℕ) {x : ℕ} (e : x ≡ damageCode b) (n : x ≡ 0 → ⊥) where
+module _ (b : List ℕ) {x : ℕ} (e : x ≡ bookCode b false) (n : x ≡ 0 → ⊥) where
   pub account-damaged : (p i : ℕ) → x ∷ 0 ∷ [] ≡ readAnswer b (account p i)
-  account-damaged p i = book-refused b (account p i) e n
+  account-damaged p i = damaged b (account p i) e n
 
   pub position-damaged : (p i : ℕ) → x ∷ 0 ∷ [] ≡ readAnswer b (position p i)
-  position-damaged p i = book-refused b (position p i) e n
+  position-damaged p i = damaged b (position p i) e n
 
   pub exposure-damaged : (y : ℕ) → x ∷ 0 ∷ 0 ∷ 0 ∷ 0 ∷ 0 ∷ [] ≡ readAnswer b (exposure y)
-  exposure-damaged y = book-refused b (exposure y) e n
+  exposure-damaged y = damaged b (exposure y) e n
 
   pub basket-damaged : (y : ℕ) → x ∷ 0 ∷ 0 ∷ 0 ∷ 0 ∷ [] ≡ readAnswer b (basket y)
-  basket-damaged y = book-refused b (basket y) e n
+  basket-damaged y = damaged b (basket y) e n
 
   pub request-damaged : (y : ℕ) → x ∷ 0 ∷ 0 ∷ 0 ∷ 0 ∷ 0 ∷ 0 ∷ 0 ∷ 0 ∷ 0 ∷ 0 ∷ 0 ∷ 0 ∷ 0 ∷ 0 ∷ [] ≡ readAnswer b (request y)
-  request-damaged y = book-refused b (request y) e n
+  request-damaged y = damaged b (request y) e n
+
+-- the rules of a nominal by the code of its row
+by-row : (a u t v : Bool) {c : ℕ} → c ≡ lowest (rule a 4 ∷ rule (not u) 5 ∷ []) → lowest (rule (eqb c 4 || t) 4 ∷ rule (not (eqb c 0 && v)) 5 ∷ []) ≡ lowest (rule (a || t) 4 ∷ rule (not (u && v)) 5 ∷ [])
+by-row true u t v e = rw e
+by-row false true t v e = rw e
+by-row false false t v e = rw e
 
 -- a sound one
-module _ (b : List ℕ) {x : ℕ} (e : x ≡ damageCode b) (z : x ≡ 0) {c : ℕ} where
-  pub account-refused : (p i : ℕ) → c ≡ lowest (readRules (state b) (account p i)) → (c ≡ 0 → ⊥) → c ∷ 0 ∷ [] ≡ readAnswer b (account p i)
-  account-refused p i g n = read-refused b (account p i) e z g n
+module _ (b : List ℕ) {x : ℕ} (e : x ≡ bookCode b false) (z : x ≡ 0) {c : ℕ} where
+  nominal-answer : (q : Read) (f t y i : ℕ) (u : Bool) {v : List ℕ} → readRules (state b) q ≡ nominalRules (state b) t y u i → readValues (state b) q ≡ state b f (64 * y + i) ∷ []
+      → c ≡ lowest (rowRules t y u) → v ≡ nominalAnswer (state b) c f y i → v ≡ readAnswer b q
+  nominal-answer q f t y i u r w g h =
+      let code : nominalCode (state b) c i ≡ lowest (readRules (state b) q) = rw r (by-row (leb (rowsOf t) y) u (leb (rowsOf lots) i) (securitySetUp (state b) i) g) in
+      h ∙ rw w at (by-rules b q e z code)
 
-  pub account-read : (p i : ℕ) {y : ℕ} → c ≡ lowest (readRules (state b) (account p i)) → c ≡ 0 → y ≡ state b accounts (64 * p + i) → 0 ∷ y ∷ [] ≡ readAnswer b (account p i)
-  account-read p i g o h = rw h (read-accepted b (account p i) e z g o)
+  pub account-answer : (p i : ℕ) {v : List ℕ} → c ≡ lowest (rowRules modes p (participantSetUp (state b) p)) → v ≡ nominalAnswer (state b) c accounts p i → v ≡ readAnswer b (account p i)
+  account-answer p i = nominal-answer (account p i) accounts modes p i (participantSetUp (state b) p) refl refl
 
-  pub position-refused : (p i : ℕ) → c ≡ lowest (readRules (state b) (position p i)) → (c ≡ 0 → ⊥) → c ∷ 0 ∷ [] ≡ readAnswer b (position p i)
-  position-refused p i g n = read-refused b (position p i) e z g n
-
-  pub position-read : (p i : ℕ) {y : ℕ} → c ≡ lowest (readRules (state b) (position p i)) → c ≡ 0 → y ≡ state b positions (64 * p + i) → 0 ∷ y ∷ [] ≡ readAnswer b (position p i)
-  position-read p i g o h = rw h (read-accepted b (position p i) e z g o)
+  pub position-answer : (y i : ℕ) {v : List ℕ} → c ≡ lowest (rowRules inUse y (isInUse (state b) y)) → v ≡ nominalAnswer (state b) c positions y i → v ≡ readAnswer b (position y i)
+  position-answer y i = nominal-answer (position y i) positions inUse y i (isInUse (state b) y) refl refl
 
   pub exposure-refused : (y : ℕ) → c ≡ lowest (readRules (state b) (exposure y)) → (c ≡ 0 → ⊥) → c ∷ 0 ∷ 0 ∷ 0 ∷ 0 ∷ 0 ∷ [] ≡ readAnswer b (exposure y)
   exposure-refused y g n = read-refused b (exposure y) e z g n
@@ -83,10 +111,11 @@ module _ (b : List ℕ) {x : ℕ} (e : x ≡ damageCode b) (z : x ≡ 0) {c : �
   pub basket-refused : (y : ℕ) → c ≡ lowest (readRules (state b) (basket y)) → (c ≡ 0 → ⊥) → c ∷ 0 ∷ 0 ∷ 0 ∷ 0 ∷ [] ≡ readAnswer b (basket y)
   basket-refused y g n = read-refused b (basket y) e z g n
 
-  pub basket-read : (y : ℕ) {m a : ℕ} (r : declared.Report) → c ≡ lowest (readRules (state b) (basket y)) → c ≡ 0 → y < 16 → m ≡ state b maps y → a ≡ state b greatestAges y → r ≡ report m
+  pub basket-read : (y : ℕ) {m a : ℕ} (r : declared.Report) → c ≡ lowest (readRules (state b) (basket y)) → c ≡ 0 → m ≡ state b maps y → a ≡ state b greatestAges y → r ≡ report m
       → 0 ∷ m ∷ a ∷ r .count ∷ r .lowest ∷ [] ≡ readAnswer b (basket y)
   unfolding report
-  basket-read y {m} r g o l f1 f2 f3 =
+  basket-read y {m} r g o f1 f2 f3 =
+      let l = row-in 16 y (not (basketSetUp (state b) y)) g o in
       let some : m ≡ 0 → ⊥ = λ w. (let five : _≡_ {A = ℕ} 5 0 = rw (lt-leb 16 y l, sym f1 ∙ w) at (sym g ∙ o) in omega arith) in
       rw (f3, ne-eqb m 0 some, f2, f1) (read-accepted b (basket y) e z g o)
 
@@ -94,7 +123,7 @@ module _ (b : List ℕ) {x : ℕ} (e : x ≡ damageCode b) (z : x ≡ 0) {c : �
 pub row-near : (s : State) (n : ℕ) {i : ℕ} → i ≡ rowOf s n → (i ≡ 256 → ⊥) → i < 256
 row-near s n e m = omega (arith, least-le (λ i. isUsed s i && eqb (s numbers i) n) 256 0)
 
-module _ (b : List ℕ) (n : ℕ) {x i : ℕ} (e : x ≡ damageCode b) (z : x ≡ 0) (f : i ≡ rowOf (state b) n) where
+module _ (b : List ℕ) (n : ℕ) {x i : ℕ} (e : x ≡ bookCode b false) (z : x ≡ 0) (f : i ≡ rowOf (state b) n) where
   pub request-refused : i ≡ 256 → 5 ∷ 0 ∷ 0 ∷ 0 ∷ 0 ∷ 0 ∷ 0 ∷ 0 ∷ 0 ∷ 0 ∷ 0 ∷ 0 ∷ 0 ∷ 0 ∷ 0 ∷ [] ≡ readAnswer b (request n)
   request-refused h = read-refused b (request n) e z {c = 5} (rw (sym f ∙ h)) (λ w. omega arith)
 

@@ -1,20 +1,24 @@
--- What every read begins with, and the answer of an accepted read of a request, number by number.
+-- The answers of accepted reads in parts, as the code finds them.
 -- Assumes nothing.
-use mathlib.Core.Bool.{not, cond}
-use mathlib.Core.List.{List}
-use Prim.Native.Nat.{ℕ, _+_}
-use lib.Dec.{eqb}
-use lib.ListN.{length}
-use Rattle.book.specs.Layout.{bookLength, numbers}
-use Rattle.book.specs.State.{State, state}
-use Rattle.rules.specs.Reads.{partnerNumber}
-use Rattle.rules.specs.Sound.{sound}
+use mathlib.Core.Bool.{not, _&&_, _||_, cond}
+use mathlib.Core.List.{List, [], _∷_}
+use Prim.Native.Nat.{ℕ, _+_, _*_}
+use lib.Dec.{eqb, leb}
+use lib.ListN.{getD}
+use Rattle.book.specs.Layout.{rowsOf, lots, requestTables}
+use Rattle.book.specs.State.{State}
+use Rattle.rules.specs.Outcome.{rule, lowest}
+use Rattle.rules.specs.Reads.{shown}
+use Rattle.rules.specs.Stock.{securitySetUp}
 
--- 1: book of another length; 2: book not sound; else 0
-abbrev pub damageCode : List ℕ → ℕ
-damageCode book = cond (not (eqb (length book) bookLength)) 1 (cond (not (sound (state book))) 2 0)
+-- the code of a read of a nominal, by the code c of its row and by its security
+abbrev pub nominalCode : State → ℕ → ℕ → ℕ
+nominalCode s c i = lowest (rule (eqb c 4 || leb (rowsOf lots) i) 4 ∷ rule (not (eqb c 0 && securitySetUp s i)) 5 ∷ [])
 
--- the number k of the answer of an accepted read of a request: code 0, then the tables from the kinds on in their order, but the
--- partner by its number
+-- and its answer: the nominal in the row x of the table f
+abbrev pub nominalAnswer : State → ℕ → ℕ → ℕ → ℕ → List ℕ
+nominalAnswer s c f x i = nominalCode s c i ∷ cond (eqb (nominalCode s c i) 0) (s f (64 * x + i) ∷ []) (0 ∷ [])
+
+-- the number k of the answer of an accepted read of a request: code 0 in the place of its number, then its fields
 abbrev pub requestNumber : State → ℕ → ℕ → ℕ
-requestNumber s i k = cond (eqb k 0) 0 (cond (eqb k 11) (partnerNumber s i) (s (numbers + k) i))
+requestNumber s i k = cond (eqb k 0) 0 (shown s (getD requestTables k 0) i)

@@ -2,15 +2,16 @@
 // Each fills a lent answer of fixed length: the code, then the values, which are 0 in a refusal. No read writes to the book.
 ghost use mathlib.Core.Path.{_≡_};
 ghost use mathlib.Core.Bool.{true};
-ghost use Prim.Native.Nat.{_<_};
+ghost use Prim.Native.Nat.{_+_, _*_, _≤_, _<_};
 ghost use lib.ListN.{length};
 ghost use Rattle.laws.specs.Filled.{filled};
-ghost use Rattle.book.specs.Layout.{bookLength};
+ghost use Rattle.book.specs.Layout.{bookLength, tableCount, rowsOf, modes};
 ghost use Rattle.book.specs.State.{state};
 ghost use Rattle.rules.specs.Outcome.{lowest};
-ghost use Rattle.rules.specs.Reads.{account, position, exposure, request, basket, rowOf, readRules, readCode, readAnswer, partnerNumber};
+ghost use Rattle.rules.specs.Reads.{account, position, exposure, request, basket, rowOf, rowRules, readRules, readAnswer, partnerNumber};
 ghost use Rattle.rules.specs.Sound.{sound};
-ghost use Rattle.reads.specs.Entries.{damageCode, requestNumber};
+ghost use Rattle.rules.specs.Stock.{participantSetUp};
+ghost use Rattle.reads.specs.Entries.{nominalAnswer, requestNumber};
 use book::layout::ACCOUNTS;
 use book::layout::EXPOSURE_AMOUNTS;
 use book::layout::EXPOSURE_BASKETS;
@@ -26,54 +27,15 @@ use book::layout::NUMBERS;
 use book::layout::PARTNERS;
 use book::layout::POSITIONS;
 
-// 1 for a book of another length, 2 for one that is not sound, else 0.
-pub fn book_code(book: &[u8]) -> u64
-    ensures { λ r. ⌜ r ≡ damageCode (now (book .entry)) ⌝ }
-{
-    if book.len() != 49152 {
-        return 1;
-    }
-    if !soundness::is_sound(book) {
-        return 2;
-    }
-    0
-}
-
-// 4 and 5 of an account.
-fn account_rules(book: &[u8], participant: u64, security: u64) -> u64
+// 4 and 5 of a participant.
+fn participant_rules(book: &[u8], p: u64) -> u64
     requires { ⌜ length (now book) ≡ bookLength ⌝ }
-    ensures { λ r. ⌜ r ≡ lowest (readRules (state (now (book .entry))) (account participant security)) ⌝ }
+    ensures { λ r. ⌜ r ≡ lowest (rowRules modes p (participantSetUp (state (now (book .entry))) p)) ⌝ }
 {
-    if 32 <= participant {
+    if 32 <= p {
         return 4;
     }
-    if 64 <= security {
-        return 4;
-    }
-    if book::get(book, MODES, participant as usize) == 0 {
-        return 5;
-    }
-    if book::get(book, LOTS, security as usize) == 0 {
-        return 5;
-    }
-    0
-}
-
-// 4 and 5 of a position.
-fn position_rules(book: &[u8], exposure: u64, security: u64) -> u64
-    requires { ⌜ length (now book) ≡ bookLength ⌝ }
-    ensures { λ r. ⌜ r ≡ lowest (readRules (state (now (book .entry))) (position exposure security)) ⌝ }
-{
-    if 64 <= exposure {
-        return 4;
-    }
-    if 64 <= security {
-        return 4;
-    }
-    if book::get(book, IN_USE, exposure as usize) != 1 {
-        return 5;
-    }
-    if book::get(book, LOTS, security as usize) == 0 {
+    if book::get(book, MODES, p as usize) == 0 {
         return 5;
     }
     0
@@ -105,6 +67,27 @@ fn basket_rules(book: &[u8], b: u64) -> u64
         return 5;
     }
     0
+}
+
+// The nominal of one security in the row x of a table, an account or a position, by the code of that row: {code, nominal}.
+fn nominal_answer(book: &[u8], code: u64, f: usize, x: u64, security: u64) -> [u64; 2]
+    requires { ⌜ (length (now book) ≡ bookLength) × (f < tableCount) × (code ≡ 0 → (x < 64) × (64 * x + 64 ≤ rowsOf f)) ⌝ }
+    ensures { λ r. ⌜ r ≡ nominalAnswer (state (now (book .entry))) code f x security ⌝ }
+{
+    if code == 4 {
+        return [4, 0];
+    }
+    if 64 <= security {
+        return [4, 0];
+    }
+    if code != 0 {
+        return [5, 0];
+    }
+    if book::get(book, LOTS, security as usize) == 0 {
+        return [5, 0];
+    }
+    let at = 64 * x as usize + security as usize;
+    [0, book::get(book, f, at)]
 }
 
 // The row of a request by its number, 256 where there is none. No request has the number 0.
@@ -145,10 +128,11 @@ fn request_number(book: &[u8], i: usize, k: usize) -> u64
     if k == 0 {
         return 0;
     }
-    if k == 11 {
+    let f = NUMBERS + k;
+    if f == PARTNERS {
         return partner_number(book, i);
     }
-    book::get(book, NUMBERS + k, i)
+    book::get(book, f, i)
 }
 
 // The answer of an accepted read of a request.
@@ -170,18 +154,13 @@ fn request_answer(book: &[u8], i: usize) -> [u64; 15]
 pub extern "C" fn reads_account(book: &[u8], participant: u64, security: u64, answer: &mut [u64; 2])
     ensures { λ _. ⌜ now (answer .exit) ≡ readAnswer (now (book .entry)) (account participant security) ⌝ }
 {
-    let damage = book_code(book);
-    if damage != 0 {
-        *answer = [damage, 0];
+    let damaged = damage::book_code(book, false);
+    if damaged != 0 {
+        *answer = [damaged, 0];
         return;
     }
-    let code = account_rules(book, participant, security);
-    if code != 0 {
-        *answer = [code, 0];
-        return;
-    }
-    let at = 64 * participant as usize + security as usize;
-    *answer = [0, book::get(book, ACCOUNTS, at)];
+    let code = participant_rules(book, participant);
+    *answer = nominal_answer(book, code, ACCOUNTS, participant, security);
 }
 
 // The nominal of one security in an exposure's position: {code, nominal}.
@@ -189,18 +168,13 @@ pub extern "C" fn reads_account(book: &[u8], participant: u64, security: u64, an
 pub extern "C" fn reads_position(book: &[u8], exposure: u64, security: u64, answer: &mut [u64; 2])
     ensures { λ _. ⌜ now (answer .exit) ≡ readAnswer (now (book .entry)) (position exposure security) ⌝ }
 {
-    let damage = book_code(book);
-    if damage != 0 {
-        *answer = [damage, 0];
+    let damaged = damage::book_code(book, false);
+    if damaged != 0 {
+        *answer = [damaged, 0];
         return;
     }
-    let code = position_rules(book, exposure, security);
-    if code != 0 {
-        *answer = [code, 0];
-        return;
-    }
-    let at = 64 * exposure as usize + security as usize;
-    *answer = [0, book::get(book, POSITIONS, at)];
+    let code = exposure_rules(book, exposure);
+    *answer = nominal_answer(book, code, POSITIONS, exposure, security);
 }
 
 // An exposure: {code, giver, taker, basket, closing, amount}.
@@ -208,9 +182,9 @@ pub extern "C" fn reads_position(book: &[u8], exposure: u64, security: u64, answ
 pub extern "C" fn reads_exposure(book: &[u8], e: u64, answer: &mut [u64; 6])
     ensures { λ _. ⌜ now (answer .exit) ≡ readAnswer (now (book .entry)) (exposure e) ⌝ }
 {
-    let damage = book_code(book);
-    if damage != 0 {
-        *answer = [damage, 0, 0, 0, 0, 0];
+    let damaged = damage::book_code(book, false);
+    if damaged != 0 {
+        *answer = [damaged, 0, 0, 0, 0, 0];
         return;
     }
     let code = exposure_rules(book, e);
@@ -232,9 +206,9 @@ pub extern "C" fn reads_exposure(book: &[u8], e: u64, answer: &mut [u64; 6])
 pub extern "C" fn reads_basket(book: &[u8], b: u64, answer: &mut [u64; 5])
     ensures { λ _. ⌜ now (answer .exit) ≡ readAnswer (now (book .entry)) (basket b) ⌝ }
 {
-    let damage = book_code(book);
-    if damage != 0 {
-        *answer = [damage, 0, 0, 0, 0];
+    let damaged = damage::book_code(book, false);
+    if damaged != 0 {
+        *answer = [damaged, 0, 0, 0, 0];
         return;
     }
     let code = basket_rules(book, b);
@@ -254,9 +228,9 @@ pub extern "C" fn reads_basket(book: &[u8], b: u64, answer: &mut [u64; 5])
 pub extern "C" fn reads_request(book: &[u8], number: u64, answer: &mut [u64; 15])
     ensures { λ _. ⌜ now (answer .exit) ≡ readAnswer (now (book .entry)) (request number) ⌝ }
 {
-    let damage = book_code(book);
-    if damage != 0 {
-        *answer = [damage, 0, 0, 0, 0, 0, 0, 0, 0, 0, 0, 0, 0, 0, 0];
+    let damaged = damage::book_code(book, false);
+    if damaged != 0 {
+        *answer = [damaged, 0, 0, 0, 0, 0, 0, 0, 0, 0, 0, 0, 0, 0, 0];
         return;
     }
     let i = row_of(book, number);

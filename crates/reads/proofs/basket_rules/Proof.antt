@@ -1,21 +1,23 @@
 -- `reads::basket_rules` meets its contract.
 -- Assumes nothing.
-use Rattle.reads.proofs.Returns.{basket-far, basket-unknown, basket-accepted}
+use Rattle.reads.proofs.Returns.{row-far, not-set-up, set-up}
 use borrow.Author.Needs.{needs}
 use Rattle.reads.proofs.basket_rules.Statement.{statement}
 use Rattle.reads.proofs.basket_rules.Tie as tie
 
 returns : tie.Need-returns
-returns c = search basket-far
+returns c = search row-far
 
 get-requires : tie.Need-get-requires
 get-requires c κs = search needs
 
 returns-2 : tie.Need-returns-2
-returns-2 c = search basket-unknown
+returns-2 c = search not-set-up
 
 returns-3 : tie.Need-returns-3
-returns-3 c = search basket-accepted
+returns-3 c = search set-up
 
 pub basket-rules-spec : {M : Type 1} → statement M
-basket-rules-spec = tie.close (tie.spec returns get-requires returns-2 returns-3)
+basket-rules-spec =
+    tie.close
+    (tie.spec returns get-requires returns-2 returns-3)

@@ -1,9 +1,9 @@
 -- `reads::reads_account` meets its contract.
 -- Assumes nothing.
+use Prim.Native.Nat.{_<_}
 use native.Mathlib.Omega.{arith}
-use Rattle.book.specs.State.{state}
-use Rattle.reads.proofs.Answers.{account-damaged, account-refused, account-read, account-in}
-use Rattle.reads.proofs.Returns.{accepted-length}
+use Rattle.reads.proofs.Answers.{accepted-length, account-damaged, account-answer}
+use Rattle.reads.proofs.Returns.{row-in}
 use borrow.Author.Needs.{needs}
 use Rattle.reads.proofs.reads_account.Statement.{statement}
 use Rattle.reads.proofs.reads_account.Tie as tie
@@ -14,40 +14,16 @@ book-code-requires c κs = search needs
 returns : tie.Need-returns
 returns c = search account-damaged
 
-account-rules-requires : tie.Need-account-rules-requires
-account-rules-requires c κs =
-    let s = c .before .before .before in
-    accepted-length (s .args .book .now) (c .before .book-code .ensures) (c .if1 .left)
+participant-rules-requires : tie.Need-participant-rules-requires
+participant-rules-requires c κs = search accepted-length
+
+nominal-answer-requires : tie.Need-nominal-answer-requires
+nominal-answer-requires c κs = (search accepted-length, search needs, λ z. (let near : c .before .before .before .before .args .participant < 32 = search row-in in (omega arith, omega arith)))
 
 returns-2 : tie.Need-returns-2
-returns-2 c = search account-refused
-
-mul-at : tie.Need-mul-at
-mul-at c =
-    let s = c .before .before .before .before .before in
-    let test = c in
-    let long = accepted-length (s .args .book .now) (test .before .before .before .book-code .ensures) (test .before .before .if1 .left) in
-    let near = account-in (state (s .args .book .now)) (s .args .participant) (s .args .security) (test .before .account-rules .ensures) (test .if2 .left) in
-    search needs
-
-add-at : tie.Need-add-at
-add-at c =
-    let s = c .before .before .before .before .before in
-    let test = c in
-    let long = accepted-length (s .args .book .now) (test .before .before .before .book-code .ensures) (test .before .before .if1 .left) in
-    let near = account-in (state (s .args .book .now)) (s .args .participant) (s .args .security) (test .before .account-rules .ensures) (test .if2 .left) in
-    search needs
-
-get-requires : tie.Need-get-requires
-get-requires c κs =
-    let s = c .before .before .before .before .before in
-    let test = c in
-    let long = accepted-length (s .args .book .now) (test .before .before .before .book-code .ensures) (test .before .before .if1 .left) in
-    let near = account-in (state (s .args .book .now)) (s .args .participant) (s .args .security) (test .before .account-rules .ensures) (test .if2 .left) in
-    search needs
-
-returns-3 : tie.Need-returns-3
-returns-3 c = search account-read
+returns-2 c = search account-answer
 
 pub reads-account-spec : {M : Type 1} → statement M
-reads-account-spec = tie.close (tie.spec book-code-requires returns account-rules-requires returns-2 mul-at add-at get-requires returns-3)
+reads-account-spec =
+    tie.close
+    (tie.spec book-code-requires returns participant-rules-requires nominal-answer-requires returns-2)

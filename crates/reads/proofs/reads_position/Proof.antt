@@ -1,9 +1,9 @@
 -- `reads::reads_position` meets its contract.
 -- Assumes nothing.
+use Prim.Native.Nat.{_<_}
 use native.Mathlib.Omega.{arith}
-use Rattle.book.specs.State.{state}
-use Rattle.reads.proofs.Answers.{position-damaged, position-refused, position-read, position-in}
-use Rattle.reads.proofs.Returns.{accepted-length}
+use Rattle.reads.proofs.Answers.{accepted-length, position-damaged, position-answer}
+use Rattle.reads.proofs.Returns.{row-in}
 use borrow.Author.Needs.{needs}
 use Rattle.reads.proofs.reads_position.Statement.{statement}
 use Rattle.reads.proofs.reads_position.Tie as tie
@@ -14,40 +14,16 @@ book-code-requires c κs = search needs
 returns : tie.Need-returns
 returns c = search position-damaged
 
-position-rules-requires : tie.Need-position-rules-requires
-position-rules-requires c κs =
-    let s = c .before .before .before in
-    accepted-length (s .args .book .now) (c .before .book-code .ensures) (c .if1 .left)
+exposure-rules-requires : tie.Need-exposure-rules-requires
+exposure-rules-requires c κs = search accepted-length
+
+nominal-answer-requires : tie.Need-nominal-answer-requires
+nominal-answer-requires c κs = (search accepted-length, search needs, λ z. (let near : c .before .before .before .before .args .exposure < 64 = search row-in in (omega arith, omega arith)))
 
 returns-2 : tie.Need-returns-2
-returns-2 c = search position-refused
-
-mul-at : tie.Need-mul-at
-mul-at c =
-    let s = c .before .before .before .before .before in
-    let test = c in
-    let long = accepted-length (s .args .book .now) (test .before .before .before .book-code .ensures) (test .before .before .if1 .left) in
-    let near = position-in (state (s .args .book .now)) (s .args .exposure) (s .args .security) (test .before .position-rules .ensures) (test .if2 .left) in
-    search needs
-
-add-at : tie.Need-add-at
-add-at c =
-    let s = c .before .before .before .before .before in
-    let test = c in
-    let long = accepted-length (s .args .book .now) (test .before .before .before .book-code .ensures) (test .before .before .if1 .left) in
-    let near = position-in (state (s .args .book .now)) (s .args .exposure) (s .args .security) (test .before .position-rules .ensures) (test .if2 .left) in
-    search needs
-
-get-requires : tie.Need-get-requires
-get-requires c κs =
-    let s = c .before .before .before .before .before in
-    let test = c in
-    let long = accepted-length (s .args .book .now) (test .before .before .before .book-code .ensures) (test .before .before .if1 .left) in
-    let near = position-in (state (s .args .book .now)) (s .args .exposure) (s .args .security) (test .before .position-rules .ensures) (test .if2 .left) in
-    search needs
-
-returns-3 : tie.Need-returns-3
-returns-3 c = search position-read
+returns-2 c = search position-answer
 
 pub reads-position-spec : {M : Type 1} → statement M
-reads-position-spec = tie.close (tie.spec book-code-requires returns position-rules-requires returns-2 mul-at add-at get-requires returns-3)
+reads-position-spec =
+    tie.close
+    (tie.spec book-code-requires returns exposure-rules-requires nominal-answer-requires returns-2)

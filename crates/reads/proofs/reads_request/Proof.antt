@@ -1,8 +1,8 @@
 -- `reads::reads_request` meets its contract.
 -- Assumes nothing.
+use native.Mathlib.Omega.{arith}
 use Rattle.book.specs.State.{state}
-use Rattle.reads.proofs.Answers.{request-damaged, request-refused, request-read, row-near}
-use Rattle.reads.proofs.Returns.{accepted-length, accepted-sound}
+use Rattle.reads.proofs.Answers.{accepted-length, accepted-sound, request-damaged, request-refused, request-read, row-near}
 use borrow.Author.Needs.{needs}
 use Rattle.reads.proofs.reads_request.Statement.{statement}
 use Rattle.reads.proofs.reads_request.Tie as tie
@@ -14,9 +14,7 @@ returns : tie.Need-returns
 returns c = search request-damaged
 
 row-of-requires : tie.Need-row-of-requires
-row-of-requires c κs =
-    let s = c .before .before .before in
-    accepted-length (s .args .book .now) (c .before .book-code .ensures) (c .if1 .left)
+row-of-requires c κs = search accepted-length
 
 returns-2 : tie.Need-returns-2
 returns-2 c = search request-refused
@@ -28,7 +26,7 @@ request-answer-requires c κs =
     let long = accepted-length (s .args .book .now) (test .before .book-code .ensures) (test .if1 .left) in
     let sane = accepted-sound (s .args .book .now) (test .before .book-code .ensures) (test .if1 .left) in
     let near = row-near (state (s .args .book .now)) (s .args .number) (c .before .row-of .ensures) (c .if2 .left) in
-    (long, sane, near)
+    (long, sane, omega arith)
 
 returns-3 : tie.Need-returns-3
 returns-3 c = search request-read

@@ -10,14 +10,14 @@ use Rattle.reads.proofs.request_number.Tie as tie
 returns : tie.Need-returns
 returns c = search number-code
 
+add-f : tie.Need-add-f
+add-f c = search needs
+
 partner-number-requires : tie.Need-partner-number-requires
 partner-number-requires c κs = search needs
 
 returns-2 : tie.Need-returns-2
 returns-2 c = search number-partner
-
-add-get : tie.Need-add-get
-add-get c = search needs
 
 get-requires : tie.Need-get-requires
 get-requires c κs =
@@ -29,4 +29,4 @@ returns-3 : tie.Need-returns-3
 returns-3 c = search number-field
 
 pub request-number-spec : {M : Type 1} → statement M
-request-number-spec = tie.close (tie.spec returns partner-number-requires returns-2 add-get get-requires returns-3)
+request-number-spec = tie.close (tie.spec returns add-f partner-number-requires returns-2 get-requires returns-3)

@@ -1,43 +1,71 @@
 -- `replay::read_code` meets its contract.
 -- Assumes nothing.
-use Rattle.replay.proofs.Stream.{by-exposure, by-request, by-basket}
+use Rattle.replay.proofs.Stream.{account-code, position-code, exposure-code, request-code, basket-code}
 use borrow.Author.Needs.{needs}
 use Rattle.replay.proofs.read_code.Statement.{statement}
 use Rattle.replay.proofs.read_code.Tie as tie
 
-nominal-code-requires : tie.Need-nominal-code-requires
-nominal-code-requires c κs = search needs
+reads-account-requires : tie.Need-reads-account-requires
+reads-account-requires c κs = search needs
+
+array-read-result : tie.Need-array-read-result
+array-read-result c = search needs
 
 returns : tie.Need-returns
-returns c = search needs
+returns c = search account-code
 
-exposure-code-requires : tie.Need-exposure-code-requires
-exposure-code-requires c κs = search needs
+reads-position-requires : tie.Need-reads-position-requires
+reads-position-requires c κs = search needs
+
+array-read-result-2 : tie.Need-array-read-result-2
+array-read-result-2 c = search needs
 
 returns-2 : tie.Need-returns-2
-returns-2 c = search by-exposure
+returns-2 c = search position-code
 
-request-code-requires : tie.Need-request-code-requires
-request-code-requires c κs = search needs
+reads-exposure-requires : tie.Need-reads-exposure-requires
+reads-exposure-requires c κs = search needs
+
+array-read-result-3 : tie.Need-array-read-result-3
+array-read-result-3 c = search needs
 
 returns-3 : tie.Need-returns-3
-returns-3 c = search by-request
+returns-3 c = search exposure-code
 
-basket-code-requires : tie.Need-basket-code-requires
-basket-code-requires c κs = search needs
+reads-request-requires : tie.Need-reads-request-requires
+reads-request-requires c κs = search needs
+
+array-read-result-4 : tie.Need-array-read-result-4
+array-read-result-4 c = search needs
 
 returns-4 : tie.Need-returns-4
-returns-4 c = search by-basket
+returns-4 c = search request-code
+
+reads-basket-requires : tie.Need-reads-basket-requires
+reads-basket-requires c κs = search needs
+
+array-read-result-5 : tie.Need-array-read-result-5
+array-read-result-5 c = search needs
+
+returns-5 : tie.Need-returns-5
+returns-5 c = search basket-code
 
 pub read-code-spec : {M : Type 1} → statement M
 read-code-spec =
     tie.close
     (tie.spec
-    nominal-code-requires
+    reads-account-requires
+    array-read-result
     returns
-    exposure-code-requires
+    reads-position-requires
+    array-read-result-2
     returns-2
-    request-code-requires
+    reads-exposure-requires
+    array-read-result-3
     returns-3
-    basket-code-requires
-    returns-4)
+    reads-request-requires
+    array-read-result-4
+    returns-4
+    reads-basket-requires
+    array-read-result-5
+    returns-5)

@@ -5,20 +5,8 @@ use borrow.Author.Needs.{needs}
 use Rattle.replay.proofs.run_one.Statement.{statement}
 use Rattle.replay.proofs.run_one.Tie as tie
 
-byte-at-requires : tie.Need-byte-at-requires
-byte-at-requires c κs = search needs
-
-add-from : tie.Need-add-from
-add-from c = search needs
-
-argument-at-requires : tie.Need-argument-at-requires
-argument-at-requires c κs = search needs
-
 read-code-requires : tie.Need-read-code-requires
 read-code-requires c κs = search needs
-
-lesser-requires : tie.Need-lesser-requires
-lesser-requires c κs = search needs
 
 same-length : tie.Need-same-length
 same-length c = search needs
@@ -26,8 +14,8 @@ same-length c = search needs
 returns : tie.Need-returns
 returns c = search one-read
 
-lesser-requires-2 : tie.Need-lesser-requires-2
-lesser-requires-2 c κs = search needs
+lesser-requires : tie.Need-lesser-requires
+lesser-requires c κs = search needs
 
 sub-engine-call : tie.Need-sub-engine-call
 sub-engine-call c = search needs
@@ -41,8 +29,8 @@ part-engine-call-end c = search needs
 engine-call-requires : tie.Need-engine-call-requires
 engine-call-requires c κs = search needs
 
-array-read-t27 : tie.Need-array-read-t27
-array-read-t27 c = search needs
+array-read-t22 : tie.Need-array-read-t22
+array-read-t22 c = search needs
 
 same-length-2 : tie.Need-same-length-2
 same-length-2 c = search needs
@@ -54,18 +42,14 @@ pub run-one-spec : {M : Type 1} → statement M
 run-one-spec =
     tie.close
     (tie.spec
-    byte-at-requires
-    add-from
-    argument-at-requires
     read-code-requires
-    lesser-requires
     same-length
     returns
-    lesser-requires-2
+    lesser-requires
     sub-engine-call
     part-engine-call-start
     part-engine-call-end
     engine-call-requires
-    array-read-t27
+    array-read-t22
     same-length-2
     returns-2)

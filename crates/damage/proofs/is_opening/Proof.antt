@@ -1,10 +1,10 @@
--- `engine::is_opening` meets its contract.
+-- `damage::is_opening` meets its contract.
 -- Assumes nothing.
 use mathlib.Core.Path.{refl}
-use Rattle.engine.proofs.Returns.{no-byte, by-byte}
+use Rattle.damage.proofs.Damage.{no-byte, by-byte}
 use borrow.Author.Needs.{needs}
-use Rattle.engine.proofs.is_opening.Statement.{statement}
-use Rattle.engine.proofs.is_opening.Tie as tie
+use Rattle.damage.proofs.is_opening.Statement.{statement}
+use Rattle.damage.proofs.is_opening.Tie as tie
 
 returns : tie.Need-returns
 returns c = search no-byte

@@ -1,0 +1,23 @@
+-- `reads::participant_rules` meets its contract.
+-- Assumes nothing.
+use Rattle.reads.proofs.Returns.{row-far, not-set-up, set-up}
+use borrow.Author.Needs.{needs}
+use Rattle.reads.proofs.participant_rules.Statement.{statement}
+use Rattle.reads.proofs.participant_rules.Tie as tie
+
+returns : tie.Need-returns
+returns c = search row-far
+
+get-requires : tie.Need-get-requires
+get-requires c κs = search needs
+
+returns-2 : tie.Need-returns-2
+returns-2 c = search not-set-up
+
+returns-3 : tie.Need-returns-3
+returns-3 c = search set-up
+
+pub participant-rules-spec : {M : Type 1} → statement M
+participant-rules-spec =
+    tie.close
+    (tie.spec returns get-requires returns-2 returns-3)
