@@ -2,15 +2,15 @@
 """What has to be believed: the definitions that the exported promises and the theorems reach.
 
 Reads crates/*/specs/*.antt and the contracts of the exported functions, follows names from the exported contracts and the theorems' statements,
-and holds docs/BELIEVE.md to the outcome: its table lists just the files that have such definitions, in each of them every definition is
-reached, and its count of lines is right.  `believed.py --list` prints each file with what is reached and what is not.
+and holds README.md to the outcome: its table lists just the files that have such definitions, and in each of them every definition is
+reached. `believed.py --list` prints each file with what is reached and what is not.
 """
 import glob
 import re
 import sys
 
 # Theorems, by the definition that states them; and functions that are no exported entry but carry a demand.
-THEOREMS = ["ReadsBack", "WritesBack", "EdgesHold", "Demand3", "OpeningAccepted", "AcceptedLeavesSound", "RulesInPrecedence", "TablesNamed"]
+THEOREMS = ["ReadsBack", "WritesBack", "EdgesHold", "Demand3", "OpeningAccepted", "AcceptedLeavesSound", "RulesInPrecedence", "TablesNamed", "AllMoneyTold", "programText"]
 CARRIERS = {"crates/replay/src/lib.rt": ["run"]}
 
 IDENTIFIER = re.compile(r"[A-Za-zα-ω][\w'\-]*")
@@ -121,10 +121,11 @@ def main():
     bad = []
     for key, f in believed.items():
         bad += [f"{f.path}: {n} is reached by no exported promise or theorem" for n in f.order if (key, n) not in seen]
-    page = open("docs/BELIEVE.md", encoding="utf-8").read()
-    listed = set(re.findall(r"crates/\w+/specs/\w+\.antt", page))
-    bad += [f"docs/BELIEVE.md does not name {f.path}" for f in believed.values() if f.path not in listed]
-    bad += [f"docs/BELIEVE.md names {path}, which has nothing to believe" for path in sorted(listed - {f.path for f in believed.values()})]
+    page = open("README.md", encoding="utf-8").read()
+    table = page[page.index("### What has to be believed"):].split("\n\n")[2]
+    listed = {"crates/" + path for path in re.findall(r"\w+/specs/\w+\.antt", table)}
+    bad += [f"README.md does not name {f.path}" for f in believed.values() if f.path not in listed]
+    bad += [f"README.md names {path}, which has nothing to believe" for path in sorted(listed - {f.path for f in believed.values()})]
     print("\n".join(bad) if bad else f"{len(believed)} files, {lines} lines, {bare} of definitions")
     return 1 if bad else 0
 

@@ -13,9 +13,11 @@ use Rattle.book.specs.Layout.{bookLength, inUse, exposureAmounts, keyTables}
 use Rattle.book.specs.State.{State, state, rowIn}
 use Rattle.records.specs.Reading.{read}
 use Rattle.rules.specs.Call.{stepOf, recordCode, opens, callCode, callBook}
+use Rattle.rules.specs.DayChange.{nextDay}
 use Rattle.rules.specs.Outcome.{Event, given, settled, returned, closed, lowest}
 use Rattle.rules.specs.Fields.{openingKind, depositKind, withdrawalKind, accountOwner, accountSecurity, nominalIn}
 use Rattle.rules.specs.Reads.{Read, readRules, readCode}
+use Rattle.rules.specs.Settlement.{settlement}
 use Rattle.rules.specs.Stock.{holding}
 
 -- a call of the list: a record's bytes, of any kind, cut or unknown ones too; or a read
@@ -163,3 +165,22 @@ pub record OpeningAccepted : Type 0 where
       → Opened b (openingOf day tolerance)
   -- the first record of document 01's input, "0: 1, 10000", on the program's book that "starts as zero bytes"
   pub first-line : Opened (replicate bookLength 0) (0 ∷ 0 ∷ 0 ∷ 0 ∷ 1 ∷ 0 ∷ 0 ∷ 39 ∷ 16 ∷ [])
+
+-- the cents that events tell of
+abbrev pub centsIn : Event → ℕ
+centsIn (given e) = 0
+centsIn (settled e x) = x
+centsIn (returned e x) = x
+centsIn (closed e x) = x
+
+unfoldable pub centsTold : List Event → ℕ
+centsTold [] = 0
+centsTold (e ∷ es) = centsIn e + centsTold es
+
+-- "M: cents settled by both", "M: amounts closed" are what the ledger is told
+pub record MoneyTold (s : State) : Type 0 where
+  pub settle : settlement s .m ≡ centsTold (settlement s .events)
+  pub next-day : nextDay s .m ≡ centsTold (nextDay s .events)
+
+abbrev pub AllMoneyTold : Type 0
+AllMoneyTold = (s : State) → MoneyTold s
