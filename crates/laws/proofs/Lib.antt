@@ -9,3 +9,4 @@ pub mod Numbers
 pub mod Patches
 pub mod Sum
 pub mod Table
+pub mod Tests

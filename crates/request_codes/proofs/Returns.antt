@@ -9,10 +9,10 @@ use lib.Dec.{eqb, ltb}
 use lib.ListN.{getD}
 use borrow.Author.Tests.{eq-eqb, ne-eqb, le-leb, lt-leb, lt-ltb, le-ltb, not-true, not-false}
 use Rattle.calendar.specs.Target.{openDay}
-use Rattle.book.specs.Layout.{today, nextNumber, modes, maps, inUse, exposureGivers, exposureTakers}
+use Rattle.book.specs.Layout.{today, nextNumber, modes, maps}
 use Rattle.book.specs.State.{State}
 use Rattle.rules.specs.Outcome.{Rule, lowest}
-use Rattle.rules.specs.Requests.{acceptsGiver, isExposureOf, exposureWith, freeExposure}
+use Rattle.rules.specs.Requests.{acceptsGiver, exposureWith, freeExposure}
 use Rattle.rules.specs.Requesting.{takerFollows, rowsNeeded, earliestEqual, pairsNow}
 use Rattle.facts.proofs.Rules.{stops, goes-on}
 use Rattle.request_search.specs.Rows.{rowsFree}
@@ -144,15 +144,3 @@ module _ (s : State) (r : List ℕ) {p : ℕ} (pq : p ≡ lowest (partyRules s r
 
       pub name-closing : {c : ℕ} → d ≡ 0 → c ≡ lowest (closingRules r) → c ≡ lowest (fopNameRules s r)
       name-closing dz cq = after-basket (goes-on (settlementRules s r) (closingRules r) refl dq dz cq)
-
--- 12: the exposure that a return names
-module _ (s : State) (giver taker e : ℕ) {u : ℕ} (uq : u ≡ s inUse e) where
-  pub names-unused : (u ≡ 1 → ⊥) → false ≡ isExposureOf s giver taker e
-  names-unused h = rw (← uq, ne-eqb u 1 h)
-
-  module _ (used : u ≡ 1) {g : ℕ} (gq : g ≡ s exposureGivers e) where
-    pub names-other : (g ≡ giver → ⊥) → false ≡ isExposureOf s giver taker e
-    names-other h = rw (← gq, ne-eqb g giver h, and-false)
-
-    pub names-by-taker : {t : ℕ} → g ≡ giver → t ≡ s exposureTakers e → eqb t taker ≡ isExposureOf s giver taker e
-    names-by-taker h tq = rw (← uq, eq-eqb u 1 used, ← gq, eq-eqb g giver h, ← tq)

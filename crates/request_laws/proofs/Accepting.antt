@@ -26,14 +26,14 @@ use Rattle.facts.proofs.Rows.{Parties}
 use Rattle.facts.proofs.Rules.{none-applies}
 use Rattle.facts.proofs.Truth.{split}
 use Rattle.request_laws.proofs.Entries.{FopIn, ReturnIn, fopIn, returnIn, RequestIn}
-use Rattle.request_laws.proofs.EntryCases.{Room}
+use Rattle.request_laws.proofs.EntryCases.{Enough}
 
 module _ (s : State) (r : List ℕ) where
   abbrev free : ℕ
   free = count (λ i. eqb (s numbers i) 0) 256 0
 
-  room-of : (ltb free (rowsNeeded s r) || ltb 1000000000 (s nextNumber 0 + rowsNeeded s r)) ≡ false → Room s r
-  room-of h = record {
+  enough-of : (ltb free (rowsNeeded s r) || ltb 1000000000 (s nextNumber 0 + rowsNeeded s r)) ≡ false → Enough s r
+  enough-of h = record {
     rows = ltb-false free (rowsNeeded s r) (or-left (ltb free (rowsNeeded s r)) (ltb 1000000000 (s nextNumber 0 + rowsNeeded s r)) h);
     numbers = ltb-false 1000000000 (s nextNumber 0 + rowsNeeded s r) (or-right (ltb free (rowsNeeded s r)) (ltb 1000000000 (s nextNumber 0 + rowsNeeded s r)) h);
   }
@@ -85,9 +85,9 @@ module _ (s : State) (r : List ℕ) where
           reference-small = omega (arith, field-in 6 7 r legal (omega arith) .1);
         }
 
-    pub fop-room : Room s r
+    pub fop-enough : Enough s r
     unfolding fopRules
-    fop-room = room-of (none-applies (fopRules s r) refl accepted .1 .1 .1 .1 .1 .1 .1 .1 .1 .0)
+    fop-enough = enough-of (none-applies (fopRules s r) refl accepted .1 .1 .1 .1 .1 .1 .1 .1 .1 .0)
 
     -- where it needs an exposure row, one is free
     pub fop-exposure : needsExposure s 6 r ≡ true → freeExposure s ≡ 64 → ⊥
@@ -124,6 +124,6 @@ module _ (s : State) (r : List ℕ) where
           reference-small = omega (arith, field-in 7 6 r legal (omega arith) .1);
         }
 
-    pub return-room : Room s r
+    pub return-enough : Enough s r
     unfolding returnRules
-    return-room = room-of (none-applies (returnRules s r) refl accepted .1 .1 .1 .1 .1 .1 .1 .0)
+    return-enough = enough-of (none-applies (returnRules s r) refl accepted .1 .1 .1 .1 .1 .1 .1 .0)

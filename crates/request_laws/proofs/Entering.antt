@@ -21,7 +21,7 @@ use Rattle.facts.proofs.Keeps.{Keeps}
 use Rattle.facts.specs.Good.{Good}
 use Rattle.facts.proofs.Searches.{least-le}
 use Rattle.facts.proofs.Sums.{allNoted}
-use Rattle.request_laws.proofs.Accepting.{fop-names, fop-request, fop-room, fop-exposure, return-request, return-room}
+use Rattle.request_laws.proofs.Accepting.{fop-names, fop-request, fop-enough, fop-exposure, return-request, return-enough}
 use Rattle.request_laws.proofs.Covering.{leaving}
 use Rattle.request_laws.proofs.Finding.{free-exposure}
 use Rattle.request_laws.proofs.Giving.{given-keeps, given-found, given-request}
@@ -44,7 +44,7 @@ module _ (s : State) (r : List ℕ) (good : Good s) (legal : areLegal 6 r ≡ tr
       let e = freeExposure s in
       let free = free-exposure s (fop-exposure s r legal accepted needs) in
       let none = eqb-true (exposureOf s r) 64 (and-right (pairsNow s 6 r) (eqb (exposureOf s r) 64) needs) in
-      let room = fop-room s r legal accepted in
+      let room = fop-enough s r legal accepted in
       let request = fop-request s r legal accepted in
       let names = fop-names s r legal accepted in
       let first = given-keeps s r e good (free .0) (free .1) none request names a b m in
@@ -54,7 +54,7 @@ module _ (s : State) (r : List ℕ) (good : Good s) (legal : areLegal 6 r ≡ tr
 
   without : needsExposure s 6 r ≡ false → Keeps s (leaving a b m (rowsEntered s 6 r) [])
   without needs =
-      entering-keeps s 6 r good (fop-request s r legal accepted) (fop-room s r legal accepted)
+      entering-keeps s 6 r good (fop-request s r legal accepted) (fop-enough s r legal accepted)
       (λ p. inr (let l = least-le (hasKey s (giverIn r) (takerIn r) (basketOrExposureIn r) (closingIn 6 r)) 64 0 in
       let n : exposureOf s r ≡ 64 → ⊥ = eqb-false (exposureOf s r) 64 (rw p at needs) in omega arith)) a b m
 
@@ -69,5 +69,5 @@ keeps-fop s r good legal accepted =
 pub keeps-return : (s : State) (r : List ℕ) → Good s → areLegal 7 r ≡ true → lowest (returnRules s r) ≡ 0 → Keeps s (entered s 7 r)
 unfolding entered
 keeps-return s r good legal accepted =
-    entering-keeps s 7 r good (return-request s r legal accepted) (return-room s r legal accepted) (λ p. inl refl)
+    entering-keeps s 7 r good (return-request s r legal accepted) (return-enough s r legal accepted) (λ p. inl refl)
     (s nextNumber 0) (pairedWith s 7 r) 0

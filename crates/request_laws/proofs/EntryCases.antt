@@ -63,11 +63,11 @@ module _ (s : State) (good : Good s) where
   free-alone {i} free = unused-blank s i (good .facts .row i (free .below)) (rw (free .unused)) partners (omega arith) (omega arith)
 
 -- rows and numbers for what enters
-pub record Room (s : State) (r : List ℕ) : Type 0 where
+pub record Enough (s : State) (r : List ℕ) : Type 0 where
   pub rows : rowsNeeded s r ≤ count (λ i. eqb (s numbers i) 0) 256 0
   pub numbers : s nextNumber 0 + rowsNeeded s r ≤ 1000000000
 
-needed-low : (b : Bool) → 1 ≤ cond b 2 1
+pub needed-low : (b : Bool) → 1 ≤ cond b 2 1
 needed-low true = omega arith
 needed-low false = omega arith
 
@@ -195,7 +195,7 @@ module _ (s : State) (k : ℕ) (r : List ℕ) (good : Good s) (q : RequestIn s k
       (omega (arith, next-low)) (omega arith) (omega arith) (omega (arith, waits .fields .number-below)) (omega arith) high (distinct-more i n distinct (numbers-below s good))
 
   -- whichever way it goes
-  pub entering-keeps : Room s r → (pairsNow s k r ≡ true → Belongs s k r) → (a b m : ℕ) → Keeps s (leaving a b m (rowsEntered s k r) [])
+  pub entering-keeps : Enough s r → (pairsNow s k r ≡ true → Belongs s k r) → (a b m : ℕ) → Keeps s (leaving a b m (rowsEntered s k r) [])
   entering-keeps room belongs a b m =
       let j = earliestEqual s k r in
       let free : Free s i = free-row s (omega (arith, room .rows, needed-low (takerFollows s r))) in

@@ -18,17 +18,17 @@ pub record EntryIn (k : ℕ) (r : List ℕ) : Type 0 where
   pub reference : referenceIn k r ≤ 18446744073709551615
 
 -- the row's parties with their basket or exposure; its amount, days and reference; what it has come to: nothing settled, no cancel, no end
-abbrev pub withParties : State → List ℕ → ℕ → State
+unfoldable pub withParties : State → List ℕ → ℕ → State
 withParties s r i = putRow s (givers ∷ takers ∷ basketsOrExposures ∷ []) i (giverIn r ∷ takerIn r ∷ basketOrExposureIn r ∷ [])
 
-abbrev pub withTerms : State → ℕ → List ℕ → ℕ → State
+unfoldable pub withTerms : State → ℕ → List ℕ → ℕ → State
 withTerms s k r i = putRow s (amounts ∷ settlements ∷ closings ∷ references ∷ []) i (amountIn r ∷ settlementIn r ∷ closingIn k r ∷ referenceIn k r ∷ [])
 
-abbrev pub withMarks : State → ℕ → ℕ → ℕ → State
+unfoldable pub withMarks : State → ℕ → ℕ → ℕ → State
 withMarks s i partner partial = putRow s (settledAmounts ∷ partners ∷ pairPartials ∷ cancels ∷ ends ∷ []) i (0 ∷ partner ∷ partial ∷ 0 ∷ 0 ∷ [])
 
 -- a row whose number stands already gets the rest
-abbrev pub filledRow : State → ℕ → List ℕ → ℕ → ℕ → ℕ → ℕ → State
+unfoldable pub filledRow : State → ℕ → List ℕ → ℕ → ℕ → ℕ → ℕ → State
 filledRow s k r i side partner partial =
     withMarks (withTerms (withParties (put (put s requestKinds i k) sides i side) r i) k r i) i partner partial
 

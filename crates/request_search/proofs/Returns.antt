@@ -19,16 +19,9 @@ use Rattle.rules.specs.Fields.{closingIn}
 use Rattle.request_search.specs.Rows.{sameTerms, otherSide, earlierOf, openOrWhole}
 use Rattle.request_search.proofs.Searches.{leastBy-next, leastBy-le}
 
--- the taker's mode
-module _ (s : State) (taker giver : ℕ) {m : ℕ} (mq : m ≡ s modes taker) where
-  pub automatic : m ≡ 1 → true ≡ acceptsGiver s taker giver
-  automatic h = rw (← mq, eq-eqb m 1 h)
-
-  pub by-list : {l : ℕ} {b : Bool} → m ≡ 2 → l ≡ s lists taker → b ≡ hasBit l giver → b ≡ acceptsGiver s taker giver
-  by-list h lq bq = let two : s modes taker ≡ 2 = sym mq ∙ h in rw (two, ← lq) bq
-
-  pub by-hand : (m ≡ 1 → ⊥) → (m ≡ 2 → ⊥) → false ≡ acceptsGiver s taker giver
-  by-hand a b = rw (← mq, ne-eqb m 1 a, ne-eqb m 2 b)
+-- the taker's list
+pub by-list : (s : State) (taker giver : ℕ) {m l : ℕ} {b : Bool} → m ≡ s modes taker → m ≡ 2 → l ≡ s lists taker → b ≡ hasBit l giver → b ≡ acceptsGiver s taker giver
+by-list s taker giver mq h lq bq = let two : s modes taker ≡ 2 = sym mq ∙ h in rw (two, ← lq) bq
 
 -- a taker request is made for a giver's only
 module _ (s : State) (r : List ℕ) where
@@ -163,13 +156,9 @@ earlier-of-all s k r {best} {i} {x} bq xq l =
     let next : x ≡ leastBy (isEqual s k r) (s numbers) 256 (i + 1) = rw (xq, bq) (sym (leastBy-next (isEqual s k r) (s numbers) 256 i)) in
     (rw next (leastBy-le (isEqual s k r) (s numbers) 256 (i + 1) (omega arith)), next)
 
--- not ended, or settled whole
-module _ (s : State) (i : ℕ) {e : ℕ} (eq : e ≡ s ends i) where
-  pub not-ended : e ≡ 0 → true ≡ openOrWhole s i
-  not-ended h = rw (← eq, eq-eqb e 0 h)
-
-  pub by-whole : {a d : ℕ} → (e ≡ 0 → ⊥) → a ≡ s amounts i → d ≡ s settledAmounts i → leb a d ≡ openOrWhole s i
-  by-whole h aq dq = rw (← eq, ne-eqb e 0 h, ← aq, ← dq)
+-- settled whole, as it was read
+pub whole-read : (x y : ℕ) {a d : ℕ} → a ≡ x → d ≡ y → leb a d ≡ leb x y
+whole-read x y aq dq = rw (aq, dq)
 
 -- the owner
 module _ (s : State) (i p : ℕ) {d : ℕ} (dq : d ≡ s sides i) where

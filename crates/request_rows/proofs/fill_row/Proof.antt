@@ -1,5 +1,6 @@
 -- `request_rows::fill_row` meets its contract.
 -- Assumes nothing.
+use Rattle.request_rows.specs.Rows.{filledRow}
 use borrow.Author.Needs.{needs}
 use Rattle.request_rows.proofs.fill_row.Statement.{statement}
 use Rattle.request_rows.proofs.fill_row.Tie as tie
@@ -23,6 +24,7 @@ same-length : tie.Need-same-length
 same-length c = search needs
 
 returns : tie.Need-returns
+unfolding filledRow
 returns c =
     let last = c .before .before in
     let fourth = last .before .before .before .before in

@@ -1,5 +1,6 @@
 -- `request_rows::write_marks` meets its contract.
 -- Assumes nothing.
+use Rattle.request_rows.specs.Rows.{withMarks}
 use borrow.Author.Needs.{needs}
 use Rattle.request_rows.proofs.write_marks.Statement.{statement}
 use Rattle.request_rows.proofs.write_marks.Tie as tie
@@ -23,6 +24,7 @@ same-length : tie.Need-same-length
 same-length c = search needs
 
 returns : tie.Need-returns
+unfolding withMarks
 returns c =
     let last = c .before .before in
     let fourth = last .before .before .before .before in

@@ -1,5 +1,6 @@
 -- `request_rows::write_parties` meets its contract.
 -- Assumes nothing.
+use Rattle.request_rows.specs.Rows.{withParties}
 use borrow.Author.Needs.{needs}
 use Rattle.request_rows.proofs.write_parties.Statement.{statement}
 use Rattle.request_rows.proofs.write_parties.Tie as tie
@@ -26,6 +27,7 @@ same-length : tie.Need-same-length
 same-length c = search needs
 
 returns : tie.Need-returns
+unfolding withParties
 returns c =
     let last = c .before .before in
     let second = last .before .before .before .before .before in

@@ -1,5 +1,6 @@
 -- `request_rows::write_terms` meets its contract.
 -- Assumes nothing.
+use Rattle.request_rows.specs.Rows.{withTerms}
 use borrow.Author.Needs.{needs}
 use Rattle.request_rows.proofs.write_terms.Statement.{statement}
 use Rattle.request_rows.proofs.write_terms.Tie as tie
@@ -32,6 +33,7 @@ same-length : tie.Need-same-length
 same-length c = search needs
 
 returns : tie.Need-returns
+unfolding withTerms
 returns c =
     let last = c .before .before in
     let third = last .before .before .before .before .before in
