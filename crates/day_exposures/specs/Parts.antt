@@ -5,25 +5,17 @@ use mathlib.Core.Bool.{Bool, true, not, cond}
 use mathlib.Core.List.{List}
 use Prim.Native.Nat.{ℕ, _≤_, _<_}
 use lib.ListN.{length, getD}
-use Rattle.laws.specs.Sum.{sum}
 use Rattle.book.specs.Layout.{inUse, exposureGivers, exposureAmounts}
 use Rattle.book.specs.State.{State}
 use Rattle.rules.specs.DayChange.{isExposureClosed, belongs}
 use Rattle.rules.specs.Stock.{holding}
 use Rattle.exposure_search.specs.Slots.{slotOf}
 
--- the test of an exposure to be closed, at a row of a state
-abbrev pub closesOn : ℕ → State → ℕ → Bool
-closesOn day s e = isExposureClosed s day e
+-- what an exposure adds to the amounts closed
+abbrev pub amountClosed : State → ℕ → ℕ
+amountClosed s e = cond (isExposureClosed s e) (s exposureAmounts e) 0
 
--- what an exposure adds to the amounts closed, and all of them
-abbrev pub amountClosed : State → ℕ → ℕ → ℕ
-amountClosed s day e = cond (isExposureClosed s day e) (s exposureAmounts e) 0
-
-abbrev pub amountsClosed : State → ℕ → ℕ
-amountsClosed s day = sum (amountClosed s day) 64
-
--- what closing an exposure counts on, and keeps
+-- what closing an exposure counts on
 pub record Closable (s : State) : Type 0 where
   pub giver : (e : ℕ) → e < 64 → s inUse e ≡ 1 → s exposureGivers e < 32
   pub amount : (e : ℕ) → e < 64 → s inUse e ≡ 1 → s exposureAmounts e ≤ 10000000000000

@@ -1,15 +1,15 @@
--- `day_exposures::is_exposure_closed` meets its contract.
+-- `day_rows::is_exposure_closed` meets its contract.
 -- Assumes nothing.
-use Rattle.day_exposures.proofs.Returns.{not-used, by-reached}
+use Rattle.day_rows.proofs.Returns.{exposure-unused, by-reached}
 use borrow.Author.Needs.{needs}
-use Rattle.day_exposures.proofs.is_exposure_closed.Statement.{statement}
-use Rattle.day_exposures.proofs.is_exposure_closed.Tie as tie
+use Rattle.day_rows.proofs.is_exposure_closed.Statement.{statement}
+use Rattle.day_rows.proofs.is_exposure_closed.Tie as tie
 
 get-requires : tie.Need-get-requires
 get-requires c κs = search needs
 
 returns : tie.Need-returns
-returns c = search not-used
+returns c = search exposure-unused
 
 get-requires-2 : tie.Need-get-requires-2
 get-requires-2 c κs = search needs
