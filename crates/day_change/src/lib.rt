@@ -76,10 +76,10 @@ fn begin_day(book: &mut [u8]) -> u64
     ensures { λ r. ⌜ (r ≡ nextOpenDay (state (now (book .entry)) today 0)) × (state (now (book .exit)) ≡ onNextDay (state (now (book .entry)))) ⌝ }
 {
     let today = book::get(book, TODAY, 0);
-    let day = calendar::next_open_day(today);
-    book::set(book, TODAY, 0, day);
+    let next = calendar::next_open_day(today);
+    book::set(book, TODAY, 0, next);
     change_profiles(book);
-    day
+    next
 }
 
 // 12: the step, pass by pass in the paper's order.

@@ -2,15 +2,14 @@
 -- Assumes nothing.
 use mathlib.Core.Path.{_≡_, refl, ap, _∙_}
 use mathlib.Core.Bool.{true, false}
-use mathlib.Core.List.{List}
 use mathlib.Core.Logic.{⊎-elim}
-use Prim.Native.Nat.{ℕ, _*_, _≤_, _<_}
+use Prim.Native.Nat.{ℕ, _≤_, _<_}
 use native.Mathlib.Omega.{arith}
 use borrow.Author.Tests.{ne-eqb}
 use Rattle.laws.specs.Filled.{filled}
 use Rattle.laws.proofs.Cases.{either}
-use Rattle.book.specs.Layout.{inUse, positions}
-use Rattle.book.specs.State.{State, Lowerable}
+use Rattle.book.specs.Layout.{inUse}
+use Rattle.book.specs.State.{State}
 use Rattle.rules.specs.DayChange.{onEach, isExposureClosed, exposureClosed, isIdle, exposureFreed}
 use Rattle.rules.specs.Stock.{positionOf}
 use Rattle.facts.proofs.Facts.{Sound}
@@ -18,12 +17,11 @@ use Rattle.facts.proofs.Rows.{used-exposure}
 use Rattle.facts.proofs.Stock.{position-at}
 use Rattle.bond_laws.proofs.Moving.{giveBack-raisable}
 use Rattle.day_laws.proofs.Closed.{closed-used}
-use Rattle.bonds.specs.Moves.{GivingBack}
 use Rattle.row_tests.specs.Rows.{InRows}
 use Rattle.row_tests.proofs.InRows.{in-rows}
 use Rattle.day_rows.specs.Parts.{cleared}
 use Rattle.day_rows.proofs.OnEach.{each-leaves}
-use Rattle.day_exposures.specs.Parts.{amountClosed, Closable}
+use Rattle.day_exposures.specs.Parts.{amountClosed, Entire, Closable}
 
 -- a sound book's exposures can be closed
 pub sound-closable : (s : State) → Sound s → Closable s
@@ -34,15 +32,12 @@ sound-closable s f =
       held = f .held;
     }
 
--- a position can be taken out of itself
-pub entire-lowerable : (s : State) (e : ℕ) → Lowerable s positions (64 * e) (positionOf s e)
-entire-lowerable s e = record { enough = λ i l. omega (arith, position-at s e i l) }
-
 -- a whole position may go back to its giver
-pub entire-back : (s : State) (e : ℕ) {by : List ℕ} → e < 64 → s inUse e ≡ 1 → Closable s → by ≡ positionOf s e → GivingBack s e by
-entire-back s e l u h q =
+pub entire-back : (s : State) (e : ℕ) → e < 64 → s inUse e ≡ 1 → Closable s → Entire s e
+entire-back s e l u h =
     let g = h .giver e l u in
-    rw q (record { below = l; giver = g; enough = entire-lowerable s e; room = giveBack-raisable s e (positionOf s e) l u g (h .held) (entire-lowerable s e) })
+    let raisable = giveBack-raisable s e (positionOf s e) l u g (h .held) (record { enough = λ i m. omega (arith, position-at s e i m) }) in
+    record { below = l; giver = g; room = λ i m. omega (arith, raisable .room i m, position-at s e i m) }
 
 -- the tests and amounts of exposures after one that is closed, and after one that is freed
 module _ (s : State) (j e : ℕ) (l : j < e) where

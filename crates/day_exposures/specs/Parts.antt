@@ -3,10 +3,11 @@
 use mathlib.Core.Path.{_≡_}
 use mathlib.Core.Bool.{Bool, true, not, cond}
 use mathlib.Core.List.{List}
-use Prim.Native.Nat.{ℕ, _≤_, _<_}
+use Prim.Native.Nat.{ℕ, _+_, _*_, _≤_, _<_}
+use lib.Dec.{eqb}
 use lib.ListN.{length, getD}
-use Rattle.book.specs.Layout.{inUse, exposureGivers, exposureAmounts}
-use Rattle.book.specs.State.{State}
+use Rattle.book.specs.Layout.{inUse, exposureGivers, exposureAmounts, accounts, positions}
+use Rattle.book.specs.State.{State, put}
 use Rattle.rules.specs.DayChange.{isExposureClosed, belongs}
 use Rattle.rules.specs.Stock.{holding}
 use Rattle.exposure_search.specs.Slots.{slotOf}
@@ -14,6 +15,19 @@ use Rattle.exposure_search.specs.Slots.{slotOf}
 -- what an exposure adds to the amounts closed
 abbrev pub amountClosed : State → ℕ → ℕ
 amountClosed s e = cond (isExposureClosed s e) (s exposureAmounts e) 0
+
+-- a security is held in an exposure's position; it goes back to the owner's account
+abbrev pub isHeld : ℕ → State → ℕ → Bool
+isHeld e s i = not (eqb (s positions (64 * e + i)) 0)
+
+abbrev pub securityBack : ℕ → ℕ → State → ℕ → State
+securityBack owner e s i = put (put s accounts (64 * owner + i) (s accounts (64 * owner + i) + s positions (64 * e + i))) positions (64 * e + i) 0
+
+-- what giving a whole position back counts on: account and position together fit four bytes
+pub record Entire (s : State) (e : ℕ) : Type 0 where
+  pub below : e < 64
+  pub giver : s exposureGivers e < 32
+  pub room : (i : ℕ) → i < 64 → s accounts (64 * s exposureGivers e + i) + s positions (64 * e + i) < 4294967296
 
 -- what closing an exposure counts on
 pub record Closable (s : State) : Type 0 where

@@ -70,4 +70,4 @@ module _ (s : State) where
   pub exposures-closed-amount : (e : ℕ) → e < 64 → exposuresClosed s exposureAmounts e ≡ cond (isExposureClosed s e) 0 (s exposureAmounts e)
   unfolding exposuresClosed
   exposures-closed-amount e l =
-      rw (eq-eqb e e refl) at (place-passed (isExposureClosed s) exposureClosed s exposureAmounts e (λ t d n. rw (ne-eqb e d n)) 64 l)
+      rw (eq-eqb e e refl) at (place-passed (isExposureClosed s) exposureClosed s (λ t. t exposureAmounts e) e (λ t d n. rw (ne-eqb e d n)) 64 l)

@@ -48,21 +48,21 @@ module _ (test : ℕ → Bool) (step : State → ℕ → State) (s : State) wher
       (λ e. rw (turn-left n e) before)
       (either (test n))
 
-  -- a place that only its own turn changes
-  module _ (f i : ℕ) (own : (t : State) (j : ℕ) → (i ≡ j → ⊥) → step t j f i ≡ t f i) where
-    other-turn : (n : ℕ) → (i ≡ n → ⊥) → onEach test step (suc n) s f i ≡ onEach test step n s f i
+  -- a number of the state that only the turn i changes
+  module _ (read : State → ℕ) (i : ℕ) (own : (t : State) (j : ℕ) → (i ≡ j → ⊥) → read (step t j) ≡ read t) where
+    other-turn : (n : ℕ) → (i ≡ n → ⊥) → read (onEach test step (suc n) s) ≡ read (onEach test step n s)
     other-turn n d =
         ⊎-elim
         (λ (e : test n ≡ true). rw (turn-taken n e) (own (onEach test step n s) n d))
         (λ (e : test n ≡ false). rw (turn-left n e))
         (either (test n))
 
-    pub place-ahead : (n : ℕ) → n ≤ i → onEach test step n s f i ≡ s f i
-    place-ahead n l = rw no-turn at (before-turn (λ n. onEach test step n s f i) i other-turn n l)
+    pub place-ahead : (n : ℕ) → n ≤ i → read (onEach test step n s) ≡ read s
+    place-ahead n l = rw no-turn at (before-turn (λ n. read (onEach test step n s)) i other-turn n l)
 
-    pub place-passed : (n : ℕ) → i < n → onEach test step n s f i ≡ cond (test i) (step (onEach test step i s) i f i) (s f i)
+    pub place-passed : (n : ℕ) → i < n → read (onEach test step n s) ≡ cond (test i) (read (step (onEach test step i s) i)) (read s)
     place-passed n l =
-        after-turn (λ n. onEach test step n s f i) i other-turn n l
+        after-turn (λ n. read (onEach test step n s)) i other-turn n l
         ∙ ⊎-elim
         (λ (e : test i ≡ true). rw (turn-taken i e, e))
         (λ (e : test i ≡ false). rw (turn-left i e, e) (place-ahead i (le-refl i)))

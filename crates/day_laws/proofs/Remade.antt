@@ -87,12 +87,12 @@ module _ (tables : ℕ → Bool) (new : (ℕ → ℕ) → ℕ → ℕ) (test : �
 
   -- the rows to come are as they were
   row-ahead : (n f i : ℕ) → n ≤ i → onEach test step n s f i ≡ s f i
-  row-ahead n f i l = place-ahead test step s f i (only-own f i) n l
+  row-ahead n f i l = place-ahead test step s (λ t. t f i) i (only-own f i) n l
 
   row-passed : (n f i : ℕ) → i < n → onEach test step n s f i ≡ remade tables new test s f i
   row-passed n f i l =
       let before : (g : ℕ) → onEach test step i s g i ≡ s g i = λ g. row-ahead i g i (le-refl i) in
-      place-passed test step s f i (only-own f i) n l
+      place-passed test step s (λ t. t f i) i (only-own f i) n l
       ∙ ⊎-elim
       (λ (e : test i ≡ true). rw (own (onEach test step i s) i f i, eq-eqb i i refl, fun-ext before, before f, e))
       (λ (e : test i ≡ false). rw e (sym (remade-not tables new (λ k. false) s f i refl)))
