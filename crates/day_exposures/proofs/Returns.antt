@@ -1,7 +1,7 @@
 -- What each return of the tests of an exposure shows.
 -- Assumes nothing.
 use mathlib.Core.Path.{_≡_, sym, _∙_}
-use mathlib.Core.Bool.{Bool, true, false, and-false, or-false}
+use mathlib.Core.Bool.{Bool, false, and-false, or-false}
 use Prim.Native.Nat.{ℕ}
 use lib.Dec.{eqb}
 use borrow.Author.Tests.{eq-eqb, ne-eqb}

@@ -2,10 +2,10 @@
 -- Assumes nothing.
 use mathlib.Core.Path.{_≡_, refl, _∙_}
 use mathlib.Core.Bool.{Bool, true, false, cond}
-use Prim.Native.Nat.{ℕ, _+_, _≤_, _<_}
+use Prim.Native.Nat.{ℕ, _+_, _<_}
 use native.Mathlib.Decide.{decLt}
 use native.Mathlib.Omega.{arith}
-use Rattle.calendar.specs.Target.{nextOpenDay, lastDay}
+use Rattle.calendar.specs.Target.{nextOpenDay}
 use Rattle.book.specs.Layout.{today, exposureAmounts}
 use Rattle.book.specs.State.{State}
 use Rattle.rules.specs.Codes.{nextDayRules}
@@ -17,7 +17,7 @@ use Rattle.facts.proofs.Sums.{Sums, allNoted}
 use Rattle.day_laws.proofs.Closed.{Closing, exposures-closed, exposures-closed-amount}
 use Rattle.day_laws.proofs.Freed.{exposures-freed-good, exposures-freed-holding, exposures-freed-amount}
 use Rattle.day_laws.proofs.Paper.{told-others, told-ahead, told-passed}
-use Rattle.day_laws.proofs.Profiles.{next-day-within, next-day-open, next-day-good, next-day-beside, next-day-holding}
+use Rattle.day_laws.proofs.Profiles.{next-day-open, next-day-good, next-day-beside, next-day-holding}
 use Rattle.day_laws.proofs.Rows.{done-together, fop-together, return-together, rows-dropped-good, rows-dropped-beside, rows-dropped-holding}
 
 -- the state after each pass but the last

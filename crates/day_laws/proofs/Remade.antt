@@ -107,7 +107,3 @@ module _ (tables : ℕ → Bool) (new : (ℕ → ℕ) → ℕ → ℕ) (test : �
 
   pub turns-remade : (n : ℕ) → onEach test step n s ≡ remade tables new (passed test n) s
   turns-remade n = fun-ext (λ f. fun-ext (λ i. row-turned n f i))
-
-  -- every other table is as it was
-  pub tables-beside : (n f i : ℕ) → tables f ≡ false → onEach test step n s f i ≡ s f i
-  tables-beside n f i m = rw m at (row-turned n f i)

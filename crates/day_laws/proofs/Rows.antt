@@ -2,12 +2,11 @@
 -- Assumes nothing.
 use mathlib.Core.Path.{_≡_, _∙_}
 use mathlib.Core.Bool.{Bool, true, false}
-use mathlib.Core.List.{List, [], _∷_}
 use mathlib.Core.Logic.{⊎-elim}
-use Prim.Native.Nat.{ℕ, _≤_, _<_}
+use Prim.Native.Nat.{ℕ, _<_}
 use native.Mathlib.Omega.{arith}
-use lib.Dec.{eqb, ltb}
-use borrow.Author.Tests.{eqb-false, ne-eqb, lt-ltb, le-ltb, not-true}
+use lib.Dec.{eqb}
+use borrow.Author.Tests.{eqb-false, ne-eqb, lt-ltb, not-true}
 use Rattle.laws.specs.Search.{all}
 use Rattle.laws.proofs.Cases.{either}
 use Rattle.book.specs.Layout.{numbers, partners, requestTables}

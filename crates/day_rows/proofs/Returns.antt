@@ -1,10 +1,10 @@
 -- What each return of the tests of a request row and of an exposure shows.
 -- Assumes nothing.
-use mathlib.Core.Path.{_≡_}
-use mathlib.Core.Bool.{Bool, true, false}
+use mathlib.Core.Path.{_≡_, sym, _∙_}
+use mathlib.Core.Bool.{Bool, true, false, not, and-false, and-true}
 use Prim.Native.Nat.{ℕ, _≤_, _<_}
-use lib.Dec.{leb}
-use borrow.Author.Tests.{eq-eqb, ne-eqb, le-leb, lt-leb}
+use lib.Dec.{eqb, leb}
+use borrow.Author.Tests.{eq-eqb, ne-eqb, le-leb, lt-leb, not-true, not-false}
 use Rattle.book.specs.Layout.{today, numbers, requestKinds, basketsOrExposures, amounts, settlements, closings, settledAmounts, partners, ends, inUse, exposureClosings}
 use Rattle.book.specs.State.{State}
 use Rattle.rules.specs.DayChange.{isReached, isDone, isClosedFop, isExposureClosed, isClosedReturn}
@@ -25,49 +25,50 @@ module _ (s : State) (e : ℕ) {u : ℕ} (uq : u ≡ s inUse e) where
   pub by-reached : {c : ℕ} {b : Bool} → u ≡ 1 → c ≡ s exposureClosings e → b ≡ isReached s c → b ≡ isExposureClosed s e
   by-reached z cq bq = rw (← uq, z, ← cq) bq
 
+-- a row that is done
 module _ (s : State) (i : ℕ) {n : ℕ} (nq : n ≡ s numbers i) where
-  -- a row that is not used is dropped by no pass
-  pub unused-done : n ≡ 0 → false ≡ isDone s i
-  unused-done z = rw (← nq, z)
+  pub done-unused : n ≡ 0 → false ≡ isDone s i
+  done-unused z = rw (← nq, z)
 
-  pub unused-fop : n ≡ 0 → false ≡ isClosedFop s i
-  unused-fop z = rw (← nq, z)
+  module _ (used : n ≡ 0 → ⊥) {a d : ℕ} (aq : a ≡ s amounts i) (dq : d ≡ s settledAmounts i) where
+    pub done-whole : a ≤ d → true ≡ isDone s i
+    done-whole h = rw (← nq, ne-eqb n 0 used, ← aq, ← dq, le-leb a d h)
 
-  pub unused-return : n ≡ 0 → false ≡ isClosedReturn s i
-  unused-return z = rw (← nq, z)
+    module _ (part : d < a) {x : ℕ} (xq : x ≡ s ends i) where
+      pub done-ended : x ≡ 1 → true ≡ isDone s i
+      done-ended e = rw (← nq, ne-eqb n 0 used, ← aq, ← dq, lt-leb a d part, ← xq, eq-eqb x 1 e)
 
-  module _ (used : n ≡ 0 → ⊥) where
-    -- a row that is done
-    module _ {a d : ℕ} (aq : a ≡ s amounts i) (dq : d ≡ s settledAmounts i) where
-      pub done-whole : a ≤ d → true ≡ isDone s i
-      done-whole h = rw (← nq, ne-eqb n 0 used, ← aq, ← dq, le-leb a d h)
+      module _ (going : x ≡ 1 → ⊥) {p : ℕ} (pq : p ≡ s partners i) where
+        pub done-not : (p ≡ 0 → ⊥) → false ≡ isDone s i
+        done-not m = rw (← nq, ne-eqb n 0 used, ← aq, ← dq, lt-leb a d part, ← xq, ne-eqb x 1 going, ← pq, ne-eqb p 0 m)
 
-      module _ (part : d < a) {x : ℕ} (xq : x ≡ s ends i) where
-        pub done-ended : x ≡ 1 → true ≡ isDone s i
-        done-ended e = rw (← nq, ne-eqb n 0 used, ← aq, ← dq, lt-leb a d part, ← xq, eq-eqb x 1 e)
+        pub by-settlement : {y t : ℕ} → p ≡ 0 → y ≡ s settlements i → t ≡ s today 0 → leb y t ≡ isDone s i
+        by-settlement z yq tq = rw (← nq, ne-eqb n 0 used, ← aq, ← dq, lt-leb a d part, ← xq, ne-eqb x 1 going, ← pq, eq-eqb p 0 z, ← yq, ← tq)
 
-        module _ (going : x ≡ 1 → ⊥) {p : ℕ} (pq : p ≡ s partners i) where
-          pub done-not : (p ≡ 0 → ⊥) → false ≡ isDone s i
-          done-not m = rw (← nq, ne-eqb n 0 used, ← aq, ← dq, lt-leb a d part, ← xq, ne-eqb x 1 going, ← pq, ne-eqb p 0 m)
+-- one of a FOP pair whose closing date is reached
+module _ (s : State) (i : ℕ) {c : ℕ} {b : Bool} (cq : c ≡ s closings i) (bq : b ≡ isReached s c) where
+  pub fop-open : not b ≡ true → false ≡ isClosedFop s i
+  fop-open e = rw (← cq, sym bq ∙ not-true b e, and-false, and-false, and-false)
 
-          pub by-settlement : {y t : ℕ} → p ≡ 0 → y ≡ s settlements i → t ≡ s today 0 → leb y t ≡ isDone s i
-          by-settlement z yq tq = rw (← nq, ne-eqb n 0 used, ← aq, ← dq, lt-leb a d part, ← xq, ne-eqb x 1 going, ← pq, eq-eqb p 0 z, ← yq, ← tq)
+  module _ (reached : not b ≡ false) {k : ℕ} (kq : k ≡ s requestKinds i) where
+    pub no-fop : (k ≡ 6 → ⊥) → false ≡ isClosedFop s i
+    no-fop m = rw (← kq, ne-eqb k 6 m, and-false)
 
-    module _ {k : ℕ} (kq : k ≡ s requestKinds i) where
-      -- one of a FOP pair whose closing date is reached
-      pub no-fop : (k ≡ 6 → ⊥) → false ≡ isClosedFop s i
-      no-fop m = rw (← nq, ne-eqb n 0 used, ← kq, ne-eqb k 6 m)
+    module _ (e : k ≡ 6) {p : ℕ} (pq : p ≡ s partners i) where
+      pub no-pair : p ≡ 0 → false ≡ isClosedFop s i
+      no-pair z = rw (← kq, e, ← pq, z, and-false)
 
-      module _ (e : k ≡ 6) {p : ℕ} (pq : p ≡ s partners i) where
-        pub no-pair : p ≡ 0 → false ≡ isClosedFop s i
-        no-pair z = rw (← nq, ne-eqb n 0 used, ← kq, e, ← pq, z)
+      pub by-number : {n : ℕ} → (p ≡ 0 → ⊥) → n ≡ s numbers i → not (eqb n 0) ≡ isClosedFop s i
+      by-number m nq = rw (← nq, ← kq, e, ← pq, ne-eqb p 0 m, ← cq, sym bq ∙ not-false b reached, and-true)
 
-        pub by-closing : {c : ℕ} {b : Bool} → (p ≡ 0 → ⊥) → c ≡ s closings i → b ≡ isReached s c → b ≡ isClosedFop s i
-        by-closing m cq bq = rw (← nq, ne-eqb n 0 used, ← kq, e, ← pq, ne-eqb p 0 m, ← cq) bq
+-- a return whose exposure is closed
+module _ (s : State) (i : ℕ) {k : ℕ} (kq : k ≡ s requestKinds i) where
+  pub no-return : (k ≡ 7 → ⊥) → false ≡ isClosedReturn s i
+  no-return m = rw (← kq, ne-eqb k 7 m, and-false)
 
-      -- a return whose exposure is closed
-      pub no-return : (k ≡ 7 → ⊥) → false ≡ isClosedReturn s i
-      no-return m = rw (← nq, ne-eqb n 0 used, ← kq, ne-eqb k 7 m)
+  module _ (e : k ≡ 7) {n : ℕ} (nq : n ≡ s numbers i) where
+    pub return-unused : n ≡ 0 → false ≡ isClosedReturn s i
+    return-unused z = rw (← nq, z)
 
-      pub by-exposure : {o : ℕ} {b : Bool} → k ≡ 7 → o ≡ s basketsOrExposures i → b ≡ isExposureClosed s o → b ≡ isClosedReturn s i
-      by-exposure e oq bq = rw (← nq, ne-eqb n 0 used, ← kq, e, ← oq) bq
+    pub by-exposure : {o : ℕ} {b : Bool} → (n ≡ 0 → ⊥) → o ≡ s basketsOrExposures i → b ≡ isExposureClosed s o → b ≡ isClosedReturn s i
+    by-exposure used oq bq = rw (← nq, ne-eqb n 0 used, ← kq, e, ← oq) bq

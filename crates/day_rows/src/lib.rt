@@ -62,12 +62,12 @@ fn is_reached(book: &[u8], closing: u64) -> bool
     closing <= book::get(book, TODAY, 0)
 }
 
-// Is a row one of a FOP pair, and its closing date reached?
+// Is a row one of a FOP pair, and its closing date reached? The date goes first: few are reached.
 fn is_closed_fop(book: &[u8], i: usize) -> bool
     requires { ⌜ (length (now book) ≡ bookLength) × (i < 256) ⌝ }
     ensures { λ r. ⌜ r ≡ isClosedFop (state (now (book .entry))) i ⌝ }
 {
-    if book::get(book, NUMBERS, i) == 0 {
+    if !is_reached(book, book::get(book, CLOSINGS, i)) {
         return false;
     }
     if book::get(book, REQUEST_KINDS, i) != 6 {
@@ -76,7 +76,7 @@ fn is_closed_fop(book: &[u8], i: usize) -> bool
     if book::get(book, PARTNERS, i) == 0 {
         return false;
     }
-    is_reached(book, book::get(book, CLOSINGS, i))
+    book::get(book, NUMBERS, i) != 0
 }
 
 // Is an exposure used, and its closing date reached?
@@ -95,10 +95,10 @@ fn is_closed_return(book: &[u8], i: usize) -> bool
     requires { ⌜ (length (now book) ≡ bookLength) × (i < 256) × ReturnNamed (state (now book)) i ⌝ }
     ensures { λ r. ⌜ r ≡ isClosedReturn (state (now (book .entry))) i ⌝ }
 {
-    if book::get(book, NUMBERS, i) == 0 {
+    if book::get(book, REQUEST_KINDS, i) != 7 {
         return false;
     }
-    if book::get(book, REQUEST_KINDS, i) != 7 {
+    if book::get(book, NUMBERS, i) == 0 {
         return false;
     }
     is_exposure_closed(book, book::get(book, BASKETS_OR_EXPOSURES, i) as usize)

@@ -1,6 +1,6 @@
 -- `day_rows::is_done` meets its contract.
 -- Assumes nothing.
-use Rattle.day_rows.proofs.Returns.{unused-done, done-whole, done-ended, done-not, by-settlement}
+use Rattle.day_rows.proofs.Returns.{done-unused, done-whole, done-ended, done-not, by-settlement}
 use borrow.Author.Needs.{needs}
 use Rattle.day_rows.proofs.is_done.Statement.{statement}
 use Rattle.day_rows.proofs.is_done.Tie as tie
@@ -9,7 +9,7 @@ get-requires : tie.Need-get-requires
 get-requires c κs = search needs
 
 returns : tie.Need-returns
-returns c = search unused-done
+returns c = search done-unused
 
 get-requires-2 : tie.Need-get-requires-2
 get-requires-2 c κs = search needs
