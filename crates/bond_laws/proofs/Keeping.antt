@@ -12,7 +12,8 @@ use lib.ListN.{getD}
 use borrow.Author.Tests.{eq-eqb, ne-eqb, le-leb}
 use Rattle.laws.specs.Search.{all}
 use Rattle.book.specs.Layout.{inUse, exposureGivers, exposureAmounts, accounts, positions, spares, rowsOf}
-use Rattle.book.specs.State.{State, put, lowered, Fits}
+use Rattle.book.specs.State.{State, put, lowered}
+use Rattle.book.specs.Fits.{Fits}
 use Rattle.book.proofs.Images.{put-same, put-apart, put-fits}
 use Rattle.book.proofs.Moves.{raised-other, lowered-other}
 use Rattle.rules.specs.ByRow.{soundHead, soundSecurity, soundParticipant, soundBasket, isSpare, soundRow, distinctNumber, soundExposure, distinctKey, soundPosition}

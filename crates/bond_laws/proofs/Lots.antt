@@ -12,7 +12,8 @@ use lib.ListN.{length, getD}
 use borrow.Author.Tests.{eqb-true, not-false}
 use Rattle.laws.proofs.Cases.{either}
 use Rattle.book.specs.Layout.{lots, exposureGivers, accounts, positions}
-use Rattle.book.specs.State.{State, columnsOf, Lowerable}
+use Rattle.book.specs.State.{State, columnsOf}
+use Rattle.book.specs.Fits.{Lowerable}
 use Rattle.picking.proofs.Picks.{picked-value}
 use Rattle.rules.specs.Stock.{securitySetUp, accountOf, positionOf, pickFor, freeFor}
 use Rattle.facts.specs.Good.{Sound}

@@ -7,7 +7,8 @@ use Prim.Native.Nat.{ℕ, _+_, _*_, _<_}
 use native.Mathlib.Nat.{le-refl}
 use native.Mathlib.Omega.{arith}
 use Rattle.book.specs.Layout.{inUse, exposureGivers, positions}
-use Rattle.book.specs.State.{State, Lowerable}
+use Rattle.book.specs.State.{State}
+use Rattle.book.specs.Fits.{Lowerable}
 use Rattle.rules.specs.Stock.{positionOf, pickFor, freeFor}
 use Rattle.facts.specs.Good.{Sound, Good}
 use Rattle.facts.proofs.Rows.{used-exposure}

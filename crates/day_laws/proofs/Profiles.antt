@@ -13,7 +13,8 @@ use Rattle.laws.proofs.Cases.{either, clash, or-cases}
 use Rattle.calendar.specs.Target.{openDay, nextOpenDay, lastDay}
 use Rattle.calendar.proofs.OpenDays.{open-within}
 use Rattle.book.specs.Layout.{today, modes, lists, partials, waitingModes, waitingLists, waitingPartials, givers, takers, exposureGivers, exposureTakers, profileTables, waitingTables}
-use Rattle.book.specs.State.{State, Fits, put}
+use Rattle.book.specs.State.{State, put}
+use Rattle.book.specs.Fits.{Fits}
 use Rattle.book.proofs.Images.{put-fits}
 use Rattle.rules.specs.Codes.{nextDayRules}
 use Rattle.rules.specs.DayChange.{changeTakesEffect, profilesChanged, onNextDay}

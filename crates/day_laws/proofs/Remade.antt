@@ -12,7 +12,8 @@ use lib.Dec.{eqb, ltb}
 use borrow.Author.Tests.{eqb-true, eq-eqb, ne-eqb, lt-ltb, le-ltb}
 use Rattle.laws.proofs.Cases.{either}
 use Rattle.book.specs.Layout.{rowsOf, widthOf, tableCount}
-use Rattle.book.specs.State.{State, Fits, put}
+use Rattle.book.specs.State.{State, put}
+use Rattle.book.specs.Fits.{Fits}
 use Rattle.book.proofs.Images.{put-fits}
 use Rattle.rules.specs.DayChange.{onEach}
 use Rattle.day_laws.proofs.Each.{place-ahead, place-passed}

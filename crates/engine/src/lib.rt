@@ -5,7 +5,8 @@ ghost use Rattle.book.specs.State.{state};
 ghost use Rattle.rules.specs.Call.{stepOf, callAnswer, callBook};
 ghost use Rattle.rules.specs.Codes.{codeOf};
 ghost use Rattle.totals.specs.Totals.{totalsOf};
-ghost use Rattle.engine.specs.Entry.{numbersOf, Taken, Accepted};
+ghost use Rattle.engine.specs.Entry.{numbersOf};
+ghost use Rattle.engine.specs.Accepted.{Taken, Accepted};
 use record_kinds::Fields;
 use totals::Totals;
 

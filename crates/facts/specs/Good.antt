@@ -5,7 +5,8 @@ use mathlib.Core.Bool.{true}
 use Prim.Native.Nat.{ℕ, _≤_, _<_}
 use Rattle.limits.specs.Limits.{greatestNominal}
 use Rattle.book.specs.Layout.{spares, rowsOf}
-use Rattle.book.specs.State.{State, Fits}
+use Rattle.book.specs.State.{State}
+use Rattle.book.specs.Fits.{Fits}
 use Rattle.rules.specs.ByRow.{soundHead, soundSecurity, soundParticipant, soundBasket, isSpare, soundRow, distinctNumber, soundExposure, distinctKey, soundPosition}
 use Rattle.rules.specs.Stock.{holding}
 

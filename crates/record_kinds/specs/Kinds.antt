@@ -5,7 +5,7 @@ use mathlib.Core.List.{List, [], _∷_}
 use Prim.Native.Nat.{ℕ, _+_, _-_, _/_, _^_}
 use lib.Dec.{leb, ltb}
 use lib.ListN.{length, getD}
-use Rattle.limits.specs.Limits.{greatestHaircut, greatestLot, greatestNominal, greatestPrice, greatestTolerance}
+use Rattle.limits.specs.Limits.{greatestAmount, greatestHaircut, greatestLot, greatestNominal, greatestPrice, greatestTolerance}
 use Rattle.laws.specs.Search.{all}
 use Rattle.laws.specs.Sum.{sum}
 use Rattle.record_kinds.specs.declared.Field.{Field}
@@ -83,7 +83,7 @@ abbrev pub taker : Field
 taker = participant
 
 abbrev pub amount : Field
-amount = bits 64 1 (10 ^ 12)
+amount = bits 64 1 greatestAmount
 
 abbrev pub settlementDay : Field
 settlementDay = day

@@ -11,7 +11,8 @@ use lib.Dec.{eqb}
 use borrow.Author.Tests.{eqb-true, eqb-false, eq-eqb, ne-eqb, not-true, not-false}
 use Rattle.laws.proofs.Cases.{either, clash}
 use Rattle.book.specs.Layout.{nextNumber, numbers, partners, cancels, ends, rowsOf, widthOf}
-use Rattle.book.specs.State.{State, put, Fits}
+use Rattle.book.specs.State.{State, put}
+use Rattle.book.specs.Fits.{Fits}
 use Rattle.book.proofs.Images.{put-same, put-other, put-apart, put-cases, put-fits}
 use Rattle.book.proofs.Places.{row-of}
 use Rattle.records.specs.Writing.{areLegal}

@@ -12,7 +12,8 @@ use Rattle.laws.specs.Search.{all}
 use Rattle.laws.proofs.Cases.{either, clash, or-cases}
 use Rattle.laws.proofs.Least.{all-at}
 use Rattle.book.specs.Layout.{tolerance, nextNumber, modes, maps, numbers, ends, inUse, exposureGivers, exposureTakers, exposureBaskets, exposureClosings}
-use Rattle.book.specs.State.{State, Fits}
+use Rattle.book.specs.State.{State}
+use Rattle.book.specs.Fits.{Fits}
 use Rattle.rules.specs.Outcome.{Step, Event}
 use Rattle.rules.specs.Requests.{exposureWith}
 use Rattle.rules.specs.Stock.{holding}

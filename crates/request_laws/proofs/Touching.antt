@@ -10,7 +10,8 @@ use native.Mathlib.Omega.{arith}
 use lib.Dec.{eqb}
 use Rattle.laws.proofs.Cases.{or-right}
 use Rattle.book.specs.Layout.{nextNumber, numbers, requestKinds, sides, givers, takers, basketsOrExposures, amounts, settlements, closings, references, settledAmounts, partners, pairPartials, cancels, ends, rowsOf, widthOf}
-use Rattle.book.specs.State.{State, put, Fits}
+use Rattle.book.specs.State.{State, put}
+use Rattle.book.specs.Fits.{Fits}
 use Rattle.book.proofs.Images.{put-apart, put-cases, put-fits}
 use Rattle.book.proofs.Places.{row-of}
 use Rattle.rules.specs.Requesting.{withRow}

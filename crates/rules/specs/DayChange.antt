@@ -96,11 +96,11 @@ nextDay s =
     let done = rowsDropped isDone s in
     let day = onNextDay done in
     let fops = rowsDropped isClosedFop day in
-    let closed = exposuresClosed fops in
-    let returns = rowsDropped isClosedReturn closed in
+    let zeroed = exposuresClosed fops in
+    let returns = rowsDropped isClosedReturn zeroed in
     record {
       a = day today 0;
-      b = count (isDone s) 256 0 + count (isClosedFop day) 256 0 + count (isClosedReturn closed) 256 0;
+      b = count (isDone s) 256 0 + count (isClosedFop day) 256 0 + count (isClosedReturn zeroed) 256 0;
       m = sum (λ e. cond (isExposureClosed fops e) (fops exposureAmounts e) 0) 64;
       state = exposuresFreed returns;
       events = closingEvents fops 64;

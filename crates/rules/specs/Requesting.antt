@@ -7,7 +7,7 @@ use lib.Dec.{eqb, ltb}
 use Rattle.laws.specs.Search.{least, leastBy}
 use Rattle.book.specs.Layout.{nextNumber, numbers, requestKinds, sides, givers, takers, partners, pairPartials, cancels, ends, termTables, requestTables, exposureTables}
 use Rattle.book.specs.State.{State, put, putRow, rowIs}
-use Rattle.rules.specs.Fields.{fopKind, giverSide, sideIn, giverIn, takerIn, basketOrExposureIn, closingIn, referenceIn, termsIn, cancelOwner, cancelNumber}
+use Rattle.rules.specs.Fields.{fopKind, giverSide, takerSide, sideIn, giverIn, takerIn, basketOrExposureIn, closingIn, referenceIn, termsIn, cancelOwner, cancelNumber}
 use Rattle.rules.specs.Outcome.{Step, silent, given}
 use Rattle.rules.specs.Requests.{isUsed, isPaired, partnerOf, isWhole, isLive, isOwner, acceptsGiver, allowPartial, exposureWith, freeExposure, freeRow}
 
@@ -61,7 +61,7 @@ withTaker s k r =
     let i = freeRow s in
     let j = freeRow (put s numbers i n) in
     let mark = partialMark s r in
-    put (withRow (withRow s k r i n 0 (j + 1) mark) k r j (n + 1) 1 (i + 1) mark) nextNumber 0 (n + 2)
+    put (withRow (withRow s k r i n giverSide (j + 1) mark) k r j (n + 1) takerSide (i + 1) mark) nextNumber 0 (n + 2)
 
 -- the row of a request that pairs with the row j, and of one that waits
 unfoldable pub withEqual : State → ℕ → List ℕ → ℕ → State

@@ -10,7 +10,7 @@ use Rattle.laws.specs.Search.{between, all, ofEach}
 use Rattle.calendar.specs.Target.{openDay}
 use Rattle.book.specs.Layout.{today, tolerance, nextNumber, lots, prices, haircuts, quoteDays, modes, partials, waitingModes, waitingPartials, greatestAges, numbers, requestKinds, sides, givers, takers, basketsOrExposures, amounts, settlements, closings, settledAmounts, partners, ends, exposureGivers, exposureTakers, exposureBaskets, exposureClosings, exposureAmounts, positions, termTables, keyTables}
 use Rattle.book.specs.State.{State, rowsAlike}
-use Rattle.rules.specs.Fields.{storedMode}
+use Rattle.rules.specs.Fields.{byHand, storedMode}
 use Rattle.rules.specs.Requests.{isUsed, isFop, isReturn, isPaired, partnerOf, openOrNone, isInUse, isExposureOf, exposureOfFop}
 use Rattle.rules.specs.SoundLayout.{soundLayout}
 use Rattle.rules.specs.Stock.{participantSetUp, securitySetUp, basketSetUp, holding}
@@ -30,7 +30,7 @@ priceInRange s i = between 1 greatestLot (s lots i) && between 1 greatestPrice (
 -- the participant's, both of the profile in force and of the one that waits
 abbrev pub participantInRange : State → ℕ → Bool
 participantInRange s p =
-    leb (s modes p) (storedMode 2) && leb (s partials p) 1 && leb (s waitingModes p) (storedMode 2) && leb (s waitingPartials p) 1
+    leb (s modes p) (storedMode byHand) && leb (s partials p) 1 && leb (s waitingModes p) (storedMode byHand) && leb (s waitingPartials p) 1
 
 -- the FOP's, and the return's
 abbrev pub fopInRange : State → ℕ → Bool

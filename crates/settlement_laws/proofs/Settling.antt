@@ -11,7 +11,8 @@ use lib.Dec.{eqb, ltb}
 use borrow.Author.Tests.{eqb-true, eq-eqb, ltb-false}
 use Rattle.laws.proofs.Cases.{either}
 use Rattle.book.specs.Layout.{tolerance, requestKinds, basketsOrExposures, pairPartials, inUse, exposureGivers, exposureAmounts, accounts, positions}
-use Rattle.book.specs.State.{State, put, lowered, Raisable, Lowerable}
+use Rattle.book.specs.State.{State, put, lowered}
+use Rattle.book.specs.Fits.{Raisable, Lowerable}
 use Rattle.book.proofs.Images.{put-same, put-other}
 use Rattle.rules.specs.Requests.{isReturn, restOf, exposureOfFop}
 use Rattle.rules.specs.Settlement.{bothSettled, returnAmount, returnSettled}
