@@ -50,6 +50,7 @@ libraries() {
     return "$result"
 }
 step "documents against the tree" sh tests/docs-check.sh
+step "what has to be believed, as README lists it" python3 tests/believed.py
 step "rt check of the program and the libraries" rt check desk reads records picking_calls calendar baskets valuation
 step "rt staticlib of seven crates" libraries
 
