@@ -34,7 +34,7 @@ run:
 	rt check desk
 	target/bin/desk < crates/desk/stdin
 
-# The gate: tests, layout, proofs, must-fail edits.
+# The gate: layout, proofs, must-fail edits, then the tests on what is proved.
 test:
 	.ci/run
 

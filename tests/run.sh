@@ -1,7 +1,8 @@
 #!/bin/sh
 # All tests, in order, from the repository's root or anywhere else: the documents are held to the tree,
-# the library is proved and written, the header is held to it, the C host is compiled and run, the
-# second program is compared with it, and the operator's tool is tried. Ends at the first failure.
+# the library is written, the header is held to it, the C host is compiled and run, the second program
+# is compared with it, and the operator's tool is tried. What is not proved yet is proved first; after
+# `rt ci`, which .ci/run begins with, all is. Ends at the first failure.
 set -eu
 cd "$(dirname "$0")/.."
 
@@ -26,28 +27,32 @@ step() {
     fi
 }
 
-# What the engine uses; then, each on one core, the libraries, which `rt staticlib` proves once more, and the program in a copy, since
-# two of rt's runs in one folder disturb each other.
-libraries() {
-    for library in engine reads records picking_calls calendar baskets valuation; do
-        rt staticlib "$library" || return 1
+# The archive of one crate, which `rt staticlib` proves once more. It has a folder of its own, since two of rt's runs in one folder
+# disturb each other, and shares what is proved.
+archive() (
+    root=$PWD
+    mkdir -p "$work/$1/target" target/staticlib && cd "$work/$1" &&
+        ln -s "$root/crates" "$root/crates.txt" . && ln -s "$root/target/rlib" "$root/target/stamp" target &&
+        rt staticlib "$1" && mv "target/staticlib/lib$1.a" "$root/target/staticlib"
+)
+archives() {
+    for crate in "$@"; do
+        archive "$crate" || return 1
     done
 }
-program() {
-    mkdir "$work/copy" && cp -r crates crates.txt target "$work/copy" && cd "$work/copy" && rt check desk
-}
-libraries_and_program() {
-    program >"$work/beside" 2>&1 &
+# Two parts that take about as long, one beside the other.
+libraries() {
+    result=0
+    archives reads records calendar >"$work/beside" 2>&1 &
     beside=$!
-    libraries || { kill "$beside"; return 1; }
-    wait "$beside" || { cat "$work/beside"; return 1; }
-    mkdir -p target/bin
-    cp "$work/copy/target/bin/desk" target/bin/desk
+    archives engine picking_calls baskets valuation || result=1
+    wait "$beside" || { cat "$work/beside"; result=1; }
+    return "$result"
 }
 step "documents against the tree" sh tests/docs-check.sh
-# shellcheck disable=SC2046
-step "rt check of what the engine uses" rt check $(sed -n 's/^engine: //p' crates.txt)
-step "rt staticlib of seven crates, rt check desk" libraries_and_program
+step "what has to be believed, as README lists it" python3 tests/believed.py
+step "rt check of the program and the libraries" rt check desk reads records picking_calls calendar baskets valuation
+step "rt staticlib of seven crates" libraries
 
 step "one library of them all" make -s build/libyordzepa.a
 step "header against the library" sh tests/header-check.sh

@@ -119,8 +119,9 @@ pub struct Checks {
     /// Reads after every call, in turn over all that the book holds; all that the call has changed
     /// is read beside them. With 0 nothing is read here.
     pub reads: usize,
-    /// All that the book holds is read at the end, and after every so many calls that changed it:
-    /// with 1 after each of them. (A call that changes no byte can change no read.)
+    /// All that the book holds is read at the end, after a book was lent, and after every so many
+    /// calls that changed it: with 1 after each of them. (A call that changes no byte can change no
+    /// read.)
     pub sweep: usize,
 }
 
@@ -163,6 +164,9 @@ pub fn run_beside(
     if let Some(book) = &list.book {
         run.second.lend(book);
         run.other.lend(book);
+        if let Err(text) = run.sweep(coverage) {
+            return Some(Difference { place: 0, text });
+        }
     }
     for (place, call) in list.calls.iter().enumerate() {
         let last = place + 1 == list.calls.len();

@@ -4,7 +4,7 @@
 //! - `guarded`: memory beside inaccessible pages, lent to the engine in all comparisons.
 //! - `second`: the second program, written to be read beside document 01.
 //! - `desk`: a program with a book, which can be the engine, the second program, or one with a wrong turn.
-//! - `lists`: lists of calls from a seed; `compare`: runs a list on two desks and shrinks what differs;
+//! - `lent`: books that no list of calls reaches. `lists`: lists of calls from a seed; `compare`: runs a list on two desks and shrinks what differs;
 //!   `driver`: runs many lists on all processors.
 //! - `image`: the book's bytes by docs/LAYOUT.md; `busy`: the book that a day-length benchmark begins with.
 //! - `plain`: ordinary Rust, which the benchmark measures the libraries against; `tabled`: a calendar out of tables, for scale.
@@ -18,6 +18,7 @@ pub mod driver;
 pub mod engine;
 pub mod guarded;
 pub mod image;
+pub mod lent;
 pub mod lists;
 pub mod plain;
 pub mod proved;

@@ -4,6 +4,7 @@
 
 use crate::desk::{Desk, SecondDesk};
 use crate::image::bytes_of;
+use crate::lent::{shuffle_requests, Class};
 use crate::random::Random;
 use crate::second::book::{
     Book, Deal, Request, Side, BASKETS, EXPOSURES, GREATEST_AMOUNT, GREATEST_HOLDING, LAST_NUMBER,
@@ -13,6 +14,7 @@ use crate::second::calendar::LAST_DAY;
 use crate::second::days::Days;
 use crate::second::reads::Question;
 use crate::second::records::fields_of;
+use crate::second::sound::is_sound;
 
 /// One call of a list.
 #[derive(Clone, Debug, PartialEq, Eq)]
@@ -49,14 +51,16 @@ pub enum Theme {
     LastDays,
     /// All numbers, and damage everywhere.
     Wild,
-    /// A sound book that no list of calls reaches.
+    /// A sound book that no list of calls reaches, and many calls.
     Lent,
+    /// Books of the classes of `lent`, sound or not, and the calls of a day or two.
+    Unreached,
     /// A book of another length: a short list of every kind and read.
     OtherLength,
 }
 
 impl Theme {
-    pub const ALL: [Theme; 10] = [
+    pub const ALL: [Theme; 11] = [
         Theme::Round,
         Theme::Tiny,
         Theme::Odd,
@@ -67,6 +71,19 @@ impl Theme {
         Theme::Wild,
         Theme::Lent,
         Theme::OtherLength,
+        Theme::Unreached,
+    ];
+
+    /// Those whose lists begin with the zero book and an opening.
+    pub const FROM_AN_OPENING: [Theme; 8] = [
+        Theme::Round,
+        Theme::Tiny,
+        Theme::Odd,
+        Theme::Crowd,
+        Theme::Keys,
+        Theme::Great,
+        Theme::LastDays,
+        Theme::Wild,
     ];
 }
 
@@ -83,6 +100,9 @@ pub fn record(kind: u64, numbers: &[u64]) -> Vec<u8> {
 
 /// The list of a theme and a seed, of about that many calls.
 pub fn list(theme: Theme, seed: u64, length: usize) -> List {
+    if theme == Theme::Unreached {
+        return unreached(seed, length.min(MOST_UNREACHED));
+    }
     let mut maker = Maker::new(theme, seed);
     if theme == Theme::OtherLength {
         let book = Some(maker.book_of_another_length());
@@ -102,6 +122,24 @@ pub fn list(theme: Theme, seed: u64, length: usize) -> List {
         maker.any();
     }
     List { theme, seed, book, calls: maker.calls }
+}
+
+/// After so many calls little is left of what made a lent book another than those of calls.
+const MOST_UNREACHED: usize = 60;
+
+/// A list of the theme `Unreached`: the seeds take turns over the books of the other themes.
+fn unreached(seed: u64, length: usize) -> List {
+    let themes = Theme::FROM_AN_OPENING;
+    let mut maker = Maker::new(themes[seed as usize % themes.len()], seed);
+    let book = maker.unreached_book();
+    if is_sound(maker.book(), maker.days) {
+        while maker.calls.len() < length {
+            maker.day();
+        }
+    } else {
+        maker.before_the_opening();
+    }
+    List { theme: Theme::Unreached, seed, book: Some(book), calls: maker.calls }
 }
 
 /// How many participants, securities and baskets a list uses, and its prices and amounts.
@@ -130,7 +168,8 @@ impl Scale {
             deposit: 12,
         };
         match theme {
-            Theme::Round | Theme::Crowd | Theme::Lent | Theme::OtherLength => round,
+            Theme::Round | Theme::Crowd | Theme::Lent => round,
+            Theme::OtherLength | Theme::Unreached => round,
             Theme::Keys => Scale { participants: 6, baskets: 4, ..round },
             Theme::Tiny => Scale {
                 lots: vec![1, 1, 2, 3],
@@ -882,7 +921,7 @@ impl Maker {
             self.any();
         }
         let mut book = self.book().clone();
-        self.shuffle_requests(&mut book);
+        shuffle_requests(&mut book, &mut self.random, false);
         if self.random.once_in(3) {
             book.next_number = LAST_NUMBER + 1 - self.random.below(60) as u32;
             if let Some(request) = book.requests.iter_mut().flatten().next() {
@@ -904,6 +943,98 @@ impl Maker {
         let bytes = bytes_of(&book);
         self.mirror.lend(&bytes);
         bytes
+    }
+
+    /// A book of some of the classes, now and then by halves, which leaves most of them not sound.
+    fn unreached_book(&mut self) -> Vec<u8> {
+        self.begin();
+        if self.theme == Theme::Great && self.random.once_in(3) {
+            self.reach_the_limit();
+        }
+        let length = self.one_of(&[40, 60, 100, 200, 300]) as usize;
+        while self.calls.len() < length {
+            self.any();
+        }
+        let mut book = self.book().clone();
+        let halves = self.random.once_in(6);
+        for place in 0..self.random.between(1, 4) {
+            let class = Class::ALL[self.random.below(Class::ALL.len() as u64) as usize];
+            class.make(&mut book, &mut self.random, halves && place == 0);
+        }
+        self.calls.clear();
+        let bytes = bytes_of(&book);
+        self.mirror.lend(&bytes);
+        bytes
+    }
+
+    /// A day on a lent book: calls of every kind but an opening in any order, all of them or the
+    /// first few, then the next day.
+    fn day(&mut self) {
+        let mut kinds = vec![1, 1, 2, 3, 4, 5, 5, 6, 6, 6, 7, 7, 8, 8, 8, 8, 9, 9, 10, 11, 11];
+        for place in (1..kinds.len()).rev() {
+            kinds.swap(place, self.random.below(place as u64 + 1) as usize);
+        }
+        if self.random.once_in(3) {
+            kinds.truncate(self.random.below(6) as usize);
+        }
+        for kind in kinds {
+            self.of_kind(kind);
+        }
+        self.next_day();
+    }
+
+    /// A call of a kind, which often names what is peculiar to a lent book.
+    fn of_kind(&mut self, kind: u64) {
+        let lodged = if self.random.once_in(2) { self.lodged() } else { None };
+        match (kind, lodged) {
+            (1, lodged) => {
+                let security = lodged.map_or_else(|| self.security(), |(_, security)| security);
+                self.price(security);
+            }
+            (2, lodged) => {
+                let number = lodged.map_or_else(|| self.participant(), |(number, _)| number);
+                self.set_up_participant(number);
+            }
+            (3, _) => {
+                let number = self.basket();
+                self.set_up_basket(number);
+            }
+            (4, _) => self.deposit(),
+            (5, Some((participant, security))) => {
+                let account = self.book().accounts[participant as usize][security as usize];
+                let nominal = self.random.between(1, u64::from(account));
+                self.put(5, &[participant, security, nominal]);
+            }
+            (5, None) => self.withdraw(),
+            (6 | 7, Some(_)) => {
+                if let Some(request) = self.used_row(|request| request.partner.is_none()) {
+                    self.enter(&request, request.side.other());
+                }
+            }
+            (6, None) => self.fop(),
+            (7, None) => self.give_back(),
+            (8, _) => self.cancel(),
+            (11, _) => self.recall(),
+            _ => {
+                self.put(kind, &[]);
+            }
+        }
+    }
+
+    /// A participant and a security whose account is not empty: one of what is not set up, if any.
+    fn lodged(&mut self) -> Option<(u64, u64)> {
+        let book = self.book();
+        let places = (0..PARTICIPANTS).flat_map(|p| (0..SECURITIES).map(move |s| (p, s)));
+        let lodged: Vec<_> = places.filter(|&(p, s)| book.accounts[p][s] > 0).collect();
+        let set_up =
+            |p: usize, s: usize| book.participants[p].is_some() && book.securities[s].set_up();
+        let odd: Vec<_> = lodged.iter().copied().filter(|&(p, s)| !set_up(p, s)).collect();
+        let from = if odd.is_empty() { lodged } else { odd };
+        if from.is_empty() {
+            return None;
+        }
+        let (p, s) = from[self.random.below(from.len() as u64) as usize];
+        Some((p as u64, s as u64))
     }
 
     /// A sound book that is cut or has bytes after it, and calls of every kind on it.
@@ -931,21 +1062,6 @@ impl Maker {
             self.calls.push(Call::Read(question));
         }
         bytes
-    }
-
-    /// The request rows in another order.
-    fn shuffle_requests(&mut self, book: &mut Book) {
-        for row in (1..ROWS).rev() {
-            let other = self.random.below(row as u64 + 1) as usize;
-            book.requests.swap(row, other);
-            for request in book.requests.iter_mut().flatten() {
-                request.partner = request.partner.map(|partner| match usize::from(partner) {
-                    partner if partner == row => other as u8,
-                    partner if partner == other => row as u8,
-                    _ => partner,
-                });
-            }
-        }
     }
 
     /// Two exposures change rows, with their positions and the returns that name them.

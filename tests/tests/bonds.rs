@@ -11,7 +11,8 @@ use yordzepa_tests::second::notes::Silent;
 use yordzepa_tests::second::picking;
 
 fn books() -> impl Iterator<Item = Book> {
-    let themes = Theme::ALL.iter().filter(|&&theme| theme != Theme::Lent);
+    let lent = |theme| theme == Theme::Lent || theme == Theme::Unreached;
+    let themes = Theme::ALL.iter().filter(move |&&theme| !lent(theme));
     let lists = themes.flat_map(|&theme| (201..=220).map(move |seed| list(theme, seed, 250)));
     lists.flat_map(|list| {
         let mut desk = SecondDesk::new();

@@ -14,10 +14,10 @@ use yordzepa_tests::second::notes::Branch;
 const SEEDS: u64 = 45;
 
 /// After every call: the answer, all bytes of the book, demand 3's sums, a read of all that the call
-/// changed and some of the rest; after every call that changed the book a read of every account,
-/// position, exposure, request and basket. Each read tests the whole book's soundness on both sides,
-/// so that the reads take most of the time.
-const CHECKS: Checks = Checks { bytes: true, reads: 4, sweep: 1 };
+/// changed and some of the rest; after every tenth call that changed the book a read of every account,
+/// position, exposure, request and basket. Each read tests the whole book's soundness, so that reading
+/// all of them after each change takes seven times as long and is left to `make fuzz`.
+const CHECKS: Checks = Checks { bytes: true, reads: 4, sweep: 10 };
 
 fn checks(_: Theme, _: u64) -> Checks {
     CHECKS

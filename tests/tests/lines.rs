@@ -1,9 +1,10 @@
 //! Document 01, The program's lines, by the second program, by the desk under test and by the program
 //! `desk` itself, target/bin/desk, which `rt check desk` writes.
 
+use std::fs::File;
 use std::io::Write;
-use std::path::Path;
-use std::process::{Command, Stdio};
+use std::path::{Path, PathBuf};
+use std::process::{Child, Command, Stdio};
 use std::thread;
 
 use yordzepa_tests::desk::under_test;
@@ -26,13 +27,23 @@ fn run(input: &[u8]) -> Vec<String> {
     found
 }
 
+/// The program, with its three streams.
+fn program() -> (Command, PathBuf) {
+    let path = Path::new(env!("CARGO_MANIFEST_DIR")).join("../target/bin/desk");
+    let mut command = Command::new(&path);
+    command.stdin(Stdio::piped()).stdout(Stdio::piped()).stderr(Stdio::piped());
+    (command, path)
+}
+
+fn start((mut command, path): (Command, PathBuf)) -> Child {
+    command.spawn().unwrap_or_else(|error| {
+        panic!("{}: {error}: run `rt check desk` in the root", path.display())
+    })
+}
+
 /// What the program writes. The input is handed over in parts of a size, so that reads end within records.
 fn output_of_program(input: &[u8], part: usize) -> Vec<u8> {
-    let path = Path::new(env!("CARGO_MANIFEST_DIR")).join("../target/bin/desk");
-    let mut program =
-        Command::new(&path).stdin(Stdio::piped()).stdout(Stdio::piped()).spawn().unwrap_or_else(
-            |error| panic!("{}: {error}: run `rt check desk` in the root", path.display()),
-        );
+    let mut program = start(program());
     let mut stdin = program.stdin.take().expect("a pipe");
     let input = input.to_vec();
     let writer = thread::spawn(move || {
@@ -46,6 +57,7 @@ fn output_of_program(input: &[u8], part: usize) -> Vec<u8> {
     let output = program.wait_with_output().expect("the program's output");
     writer.join().expect("the writer");
     assert!(output.status.success(), "{}", output.status);
+    assert_eq!(String::from_utf8_lossy(&output.stderr), "");
     output.stdout
 }
 
@@ -214,18 +226,17 @@ fn the_program_ends_at_cuts_and_unknown_kinds() {
     }
 }
 
-/// Inputs of several of the program's reads, which hold 65,536 bytes, handed over in parts of many sizes.
+/// Inputs of many of the program's reads, which hold 512 bytes, handed over in parts of many sizes.
 #[test]
 fn the_program_reads_on_across_pieces() {
     let whole = deposits(30_000);
-    assert!(whole.len() > 3 * 65_536);
-    for part in [1 << 20, 65_536, 65_535, 4_096, 4_095, 1_001] {
+    for part in [1 << 20, 65_536, 4_095, 1_001, 512, 511, 13] {
         assert_eq!(run_program(&whole, part), 30_003);
     }
-    for length in [65_535, 65_536, 65_537, 131_071, 131_072, 131_073, whole.len() - 1] {
+    for length in (506..=518).chain(1_018..=1_030).chain([131_072, whole.len() - 1]) {
         run_program(&whole[..length], 1 << 20);
     }
-    for place in [65_536, 100_000, 131_072] {
+    for place in [512, 1_024, 65_536, 100_000, 131_072] {
         let place = place - (place - 33) % 7;
         let input = [&whole[..place], &[200], &whole[place..]].concat();
         let count = run_program(&input, 1 << 20);
@@ -233,9 +244,9 @@ fn the_program_reads_on_across_pieces() {
     }
 }
 
-/// One byte a record: the lines are many times as long as the input, so that they are written in the middle of a piece.
+/// One byte a record: the lines of a piece are many times as long as it is.
 #[test]
-fn the_program_writes_when_lines_fill_up() {
+fn the_program_writes_long_lines_for_short_records() {
     let mut refused = vec![9; 70_000];
     assert_eq!(run_program(&refused, 1 << 20), 70_000);
     refused.push(77);
@@ -245,6 +256,29 @@ fn the_program_writes_when_lines_fill_up() {
     input.extend(vec![12; 3_000]);
     input.extend(vec![10; 3_000]);
     assert_eq!(run_program(&input, 1 << 20), 11_012);
+}
+
+/// A read that fails is not the end of the input: a directory cannot be read.
+#[test]
+fn the_program_reports_a_failed_read() {
+    let (mut command, path) = program();
+    command.stdin(File::open("/").expect("the root"));
+    let output = start((command, path)).wait_with_output().expect("the program's output");
+    assert_eq!(output.stdout, b"");
+    assert_eq!(output.stderr, b"desk: standard input cannot be read\n");
+}
+
+/// Nothing can be written to a device that is always full: neither the lines of a piece nor the last line.
+#[test]
+fn the_program_reports_a_failed_write() {
+    for input in [&document_input()[..], &[77]] {
+        let (mut command, path) = program();
+        command.stdout(File::create("/dev/full").expect("the full device"));
+        let mut child = start((command, path));
+        child.stdin.take().expect("a pipe").write_all(input).expect("a reader");
+        let output = child.wait_with_output().expect("the program's output");
+        assert_eq!(output.stderr, b"desk: standard output cannot be written\n");
+    }
 }
 
 #[test]

@@ -18,6 +18,8 @@ use book::layout::IN_USE;
 use book::layout::LOTS;
 use book::layout::MODES;
 use book::layout::POSITIONS;
+use limits::GREATEST_NOMINAL;
+use record_kinds::Fields;
 
 // The nominal of security i in exposure e, where it is used and the participant's.
 fn position_from(book: &[u8], p: usize, i: usize, e: usize) -> u64
@@ -62,7 +64,7 @@ fn account_code(book: &[u8], p: usize, i: usize) -> u64
 }
 
 // 4: the code of a deposit.
-pub fn deposit_code(book: &[u8], fields: &[u64; 8]) -> u64
+pub fn deposit_code(book: &[u8], fields: &Fields) -> u64
     requires { ⌜ (length (now book) ≡ bookLength) × (areLegal 4 (now fields) ≡ true) ⌝ }
     ensures { λ r. ⌜ r ≡ lowest (depositRules (state (now (book .entry))) (now (fields .entry))) ⌝ }
 {
@@ -71,14 +73,14 @@ pub fn deposit_code(book: &[u8], fields: &[u64; 8]) -> u64
     if account_code(book, p, i) != 0 {
         return 5;
     }
-    if 500000000 < holding_of(book, p, i) + fields[2] {
+    if GREATEST_NOMINAL < holding_of(book, p, i) + fields[2] {
         return 11;
     }
     0
 }
 
 // 5: the code of a withdrawal.
-pub fn withdrawal_code(book: &[u8], fields: &[u64; 8]) -> u64
+pub fn withdrawal_code(book: &[u8], fields: &Fields) -> u64
     requires { ⌜ (length (now book) ≡ bookLength) × (areLegal 5 (now fields) ≡ true) ⌝ }
     ensures { λ r. ⌜ r ≡ lowest (withdrawalRules (state (now (book .entry))) (now (fields .entry))) ⌝ }
 {
@@ -94,7 +96,7 @@ pub fn withdrawal_code(book: &[u8], fields: &[u64; 8]) -> u64
 }
 
 // 4: adds to an account.
-pub fn deposit(book: &mut [u8], fields: &[u64; 8])
+pub fn deposit(book: &mut [u8], fields: &Fields)
     requires { ⌜ (length (now book) ≡ bookLength) × (areLegal 4 (now fields) ≡ true) × AccountRoom (state (now book)) (now fields) ⌝ }
     ensures { λ _. ⌜ state (now (book .exit)) ≡ deposited (state (now (book .entry))) (now (fields .entry)) .state ⌝ }
 {
@@ -104,7 +106,7 @@ pub fn deposit(book: &mut [u8], fields: &[u64; 8])
 }
 
 // 5: takes from an account.
-pub fn withdraw(book: &mut [u8], fields: &[u64; 8])
+pub fn withdraw(book: &mut [u8], fields: &Fields)
     requires { ⌜ (length (now book) ≡ bookLength) × (areLegal 5 (now fields) ≡ true) × AccountHolds (state (now book)) (now fields) ⌝ }
     ensures { λ _. ⌜ state (now (book .exit)) ≡ withdrawn (state (now (book .entry))) (now (fields .entry)) .state ⌝ }
 {

@@ -3,7 +3,7 @@ ghost use mathlib.Core.Path.{_≡_};
 ghost use Prim.Native.Nat.{_<_, _≤_};
 ghost use Rattle.laws.specs.Bits.{hasBit};
 ghost use Rattle.laws.specs.Search.{least, count};
-ghost use Rattle.securities.specs.Security.{InBounds, AllInBounds};
+ghost use Rattle.securities.specs.Bounds.{InBounds, AllInBounds};
 ghost use Rattle.baskets.specs.Fresh.{qualifiesBy, eligibleBy, NoneBefore, FreshAges, EligibilityFor};
 ghost use Rattle.baskets.specs.Report.{report};
 use answers::OUT_OF_RANGE;

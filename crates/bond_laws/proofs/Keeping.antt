@@ -11,13 +11,14 @@ use lib.Dec.{eqb}
 use lib.ListN.{getD}
 use borrow.Author.Tests.{eq-eqb, ne-eqb, le-leb}
 use Rattle.laws.specs.Search.{all}
-use Rattle.book.specs.Layout.{inUse, exposureGivers, exposureAmounts, accounts, positions}
-use Rattle.book.specs.State.{State, put, lowered, Fits}
+use Rattle.book.specs.Layout.{inUse, exposureGivers, exposureAmounts, accounts, positions, spares, rowsOf}
+use Rattle.book.specs.State.{State, put, lowered}
+use Rattle.book.specs.Fits.{Fits}
 use Rattle.book.proofs.Images.{put-same, put-apart, put-fits}
 use Rattle.book.proofs.Moves.{raised-other, lowered-other}
 use Rattle.rules.specs.ByRow.{soundHead, soundSecurity, soundParticipant, soundBasket, isSpare, soundRow, distinctNumber, soundExposure, distinctKey, soundPosition}
 use Rattle.rules.specs.Stock.{pledge, giveBack, holding}
-use Rattle.facts.proofs.Keeps.{Good}
+use Rattle.facts.specs.Good.{Good}
 use Rattle.facts.proofs.Rows.{used-exposure, position-facts, position-none, position-stocked}
 use Rattle.bond_laws.proofs.Lots.{InLots, Pledgeable, Returnable, pledge-lowerable, giveBack-lowerable, lots-add, lots-sub, position-lots}
 use Rattle.bond_laws.proofs.Moving.{pledge-position, pledge-other-position, giveBack-position, giveBack-other-position, holding-pledge, holding-giveBack, fits-pledge, fits-giveBack}
@@ -63,7 +64,7 @@ module _ (s t : State) (h : Good s) (r : Restocked s t) where
           security = kept (λ (t : State). (i : ℕ) → i < 64 → soundSecurity t i ≡ true) (f .security);
           participant = kept (λ (t : State). (p : ℕ) → p < 32 → soundParticipant t p ≡ true) (f .participant);
           basket = kept (λ (t : State). (b : ℕ) → b < 16 → soundBasket t b ≡ true) (f .basket);
-          spare = kept (λ (t : State). (k : ℕ) → k < 589 → isSpare t k ≡ true) (f .spare);
+          spare = kept (λ (t : State). (k : ℕ) → k < rowsOf spares → isSpare t k ≡ true) (f .spare);
           row = kept (λ (t : State). (i : ℕ) → i < 256 → soundRow t i ≡ true) (f .row);
           number = kept (λ (t : State). (i : ℕ) → i < 256 → distinctNumber t i ≡ true) (f .number);
           exposure = r .exposure;

@@ -12,10 +12,11 @@ use lib.ListN.{length, getD}
 use borrow.Author.Tests.{eqb-true, not-false}
 use Rattle.laws.proofs.Cases.{either}
 use Rattle.book.specs.Layout.{lots, exposureGivers, accounts, positions}
-use Rattle.book.specs.State.{State, columnsOf, Lowerable}
+use Rattle.book.specs.State.{State, columnsOf}
+use Rattle.book.specs.Fits.{Lowerable}
 use Rattle.picking.proofs.Picks.{picked-value}
 use Rattle.rules.specs.Stock.{securitySetUp, accountOf, positionOf, pickFor, freeFor}
-use Rattle.facts.proofs.Facts.{Sound}
+use Rattle.facts.specs.Good.{Sound}
 use Rattle.facts.proofs.Rows.{position-facts}
 use Rattle.facts.proofs.Stock.{lot-at, account-at, position-at}
 use Rattle.bond_laws.proofs.Counts.{picked-length, picked-counted, freed-counted, freed-all}

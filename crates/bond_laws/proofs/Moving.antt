@@ -11,7 +11,8 @@ use lib.ListN.{getD}
 use borrow.Author.Tests.{eq-eqb, ne-eqb}
 use Rattle.laws.proofs.Sum.{sum-same, sum-part, sum-one}
 use Rattle.book.specs.Layout.{inUse, exposureGivers, accounts, positions}
-use Rattle.book.specs.State.{State, lowered, Raisable, Lowerable, Fits}
+use Rattle.book.specs.State.{State, lowered}
+use Rattle.book.specs.Fits.{Raisable, Lowerable, Fits}
 use Rattle.book.proofs.Moves.{raised-at, lowered-at, raised-other, lowered-other, raised-fits, lowered-fits}
 use Rattle.rules.specs.Stock.{pledge, giveBack, holding, positionFrom}
 

@@ -7,10 +7,10 @@ use Prim.Native.Nat.{ℕ, _+_, _*_, _<_}
 use native.Mathlib.Nat.{le-refl}
 use native.Mathlib.Omega.{arith}
 use Rattle.book.specs.Layout.{inUse, exposureGivers, positions}
-use Rattle.book.specs.State.{State, Lowerable}
+use Rattle.book.specs.State.{State}
+use Rattle.book.specs.Fits.{Lowerable}
 use Rattle.rules.specs.Stock.{positionOf, pickFor, freeFor}
-use Rattle.facts.proofs.Facts.{Sound}
-use Rattle.facts.proofs.Keeps.{Good}
+use Rattle.facts.specs.Good.{Sound, Good}
 use Rattle.facts.proofs.Rows.{used-exposure}
 use Rattle.facts.proofs.Stock.{columns-bounded, account-within, position-within, position-at}
 use Rattle.bond_laws.proofs.Lots.{Pledgeable, Returnable, pick-pledgeable, free-returnable, pledge-lowerable, giveBack-lowerable}

@@ -5,14 +5,14 @@ use mathlib.Core.List.{List}
 use Prim.Native.Nat.{ℕ, _≤_, _<_}
 use lib.ListN.{getD}
 use Rattle.baskets.specs.declared.Basket.{Basket}
-use Rattle.securities.specs.Position.{nominalsOf, Within}
-use Rattle.securities.specs.Security.{AllInBounds}
+use Rattle.securities.specs.Position.{nominalsOf}
+use Rattle.securities.specs.Bounds.{AllInBounds, Within}
 use Rattle.book.specs.Layout.{inUse, exposureBaskets, exposureAmounts}
 use Rattle.book.specs.State.{state}
 use Rattle.book.proofs.Images.{state-fits}
 use Rattle.rules.specs.Stock.{basketOf, positionOf}
-use Rattle.facts.proofs.Facts.{Sound, sound-facts}
-use Rattle.facts.proofs.Keeps.{Good}
+use Rattle.facts.proofs.Written.{sound-facts}
+use Rattle.facts.specs.Good.{Sound, Good}
 use Rattle.facts.proofs.Rows.{Exposure, used-exposure}
 use Rattle.facts.proofs.Stock.{columns-bounded, age-le, position-within}
 use Rattle.bonds.specs.Moves.{SoundBook}

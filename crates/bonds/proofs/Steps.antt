@@ -4,7 +4,8 @@ use mathlib.Core.Path.{_≡_, _∙_}
 use mathlib.Core.List.{List}
 use Prim.Native.Nat.{ℕ, _*_}
 use Rattle.book.specs.Layout.{exposureGivers, today, accounts, positions}
-use Rattle.book.specs.State.{State, rowAt, columnsOf, raised, lowered, Raisable, Lowerable}
+use Rattle.book.specs.State.{State, rowAt, columnsOf, raised, lowered}
+use Rattle.book.specs.Fits.{Raisable, Lowerable}
 use Rattle.baskets.specs.Fresh.{eligibleBy, EligibilityFor}
 use Rattle.baskets.specs.declared.Eligibility.{Eligibility}
 use Rattle.picking.specs.Free.{freed}

@@ -6,11 +6,12 @@ use mathlib.Core.List.{List}
 use Prim.Native.Nat.{ℕ, _+_, _*_, _≤_, _<_}
 use lib.ListN.{length}
 use Rattle.book.specs.Layout.{bookLength, exposureGivers, exposureBaskets, accounts, positions}
-use Rattle.book.specs.State.{State, state, columnsOf, lowered, Raisable, Lowerable}
+use Rattle.book.specs.State.{State, state, columnsOf, lowered}
+use Rattle.book.specs.Fits.{Raisable, Lowerable}
 use Rattle.rules.specs.Sound.{sound}
 use Rattle.rules.specs.Stock.{accountOf, positionOf}
-use Rattle.securities.specs.Position.{Within, nominalsOf}
-use Rattle.securities.specs.Security.{AllInBounds}
+use Rattle.securities.specs.Position.{nominalsOf}
+use Rattle.securities.specs.Bounds.{AllInBounds, Within}
 
 -- a sound book with its securities' columns
 pub record SoundBook (book columns : List ℕ) : Type 0 where

@@ -15,7 +15,8 @@ use Rattle.laws.specs.Sum.{sum}
 use Rattle.laws.proofs.Numbers.{number-same, number-bytes, bytes-number, bytes-length, number-small}
 use Rattle.laws.proofs.Chains.{chain, sum-equal, chain-length, chain-at}
 use Rattle.book.specs.Layout.{rowsOf, widthOf, sizeOf, baseOf, placeOf, bookLength, tableCount}
-use Rattle.book.specs.State.{State, state, put, Fits, rowsImage, imageTo, image}
+use Rattle.book.specs.State.{State, state, put, rowsImage, imageTo, image}
+use Rattle.book.specs.Fits.{Fits}
 use Rattle.book.proofs.Places.{tables-inside, row-inside, row-of, whole}
 use Rattle.book.proofs.Cells.{state-at, state-none}
 

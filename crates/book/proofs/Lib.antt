@@ -4,4 +4,5 @@ pub mod Moves
 pub mod Places
 pub mod Rows
 pub mod Securities
+pub mod Tables
 pub mod Words

@@ -10,7 +10,8 @@ use borrow.Author.Tests.{eq-eqb, ne-eqb, le-leb, lt-leb, lt-ltb, le-ltb}
 use lib.Dec.{eqb}
 use lib.ListN.{getD}
 use Rattle.book.specs.Layout.{rowsOf, widthOf}
-use Rattle.book.specs.State.{State, within, raised, lowered, Raisable, Fits}
+use Rattle.book.specs.State.{State, within, raised, lowered}
+use Rattle.book.specs.Fits.{Raisable, Fits}
 
 -- is a number one of the 64?
 pub among : (f start g j : ℕ) → Dec ((g ≡ f) × (start ≤ j) × (j < start + 64))

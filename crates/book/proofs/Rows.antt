@@ -12,7 +12,8 @@ use Rattle.laws.proofs.Numbers.{bytes-length, number-bytes}
 use Rattle.laws.proofs.Patches.{patched, patch-length, number-in, number-before, number-after, number-part, lent-back}
 use Rattle.book.specs.Layout.{rowsOf, widthOf, baseOf, placeOf, bookLength, tableCount}
 use Rattle.book.specs.Row.{Changed, RaisedRow, LoweredRow, RowRaisable, RowLowerable}
-use Rattle.book.specs.State.{state, raised, lowered, Raisable, Lowerable}
+use Rattle.book.specs.State.{state, raised, lowered}
+use Rattle.book.specs.Fits.{Raisable, Lowerable}
 use Rattle.book.proofs.Moves.{among, moved, moved-in, moved-out}
 use Rattle.book.proofs.Cells.{state-at, cell-in, cell-out}
 

@@ -1,6 +1,6 @@
--- Numbers of four and of eight bytes, read and written.
+-- Numbers of four bytes, read and written.
 -- Assumes nothing.
-use mathlib.Core.Path.{_≡_, sym, ap, _∙_}
+use mathlib.Core.Path.{_≡_}
 use mathlib.Core.List.{List, [], _∷_}
 use Prim.Native.Nat.{ℕ, _+_, _*_, _/_, _%_, _≤_}
 use native.Mathlib.Nat.{add-zero, div-div-eq-div-mul}
@@ -9,28 +9,14 @@ use native.Mathlib.Omega.{arith}
 use lib.ListN.{length, getD, set}
 use lib.Seq.{sets-eq}
 use Rattle.laws.specs.Numbers.{numberAt, bytesOf}
-use Rattle.laws.proofs.Numbers.{number-split, bytes-split, bytes-length}
-use Rattle.laws.proofs.Patches.{patched, patch-next}
+use Rattle.laws.proofs.Patches.{patched}
 
 -- four bytes
 pub word-at : (b : List ℕ) (at : ℕ) {n : ℕ} → n ≡ getD b at 0 * 16777216 + getD b (at + 1) 0 * 65536 + getD b (at + 2) 0 * 256 + getD b (at + 3) 0 → n ≡ numberAt b at 4
 unfolding numberAt
 word-at b at e = rw (add-zero at) (omega arith)
 
--- eight bytes, by their halves
-pub long-at : (b : List ℕ) (at : ℕ) {m n : ℕ} → m ≡ numberAt b at 4 → n ≡ numberAt b (at + 4) 4 → m * 4294967296 + n ≡ numberAt b at 8
-long-at b at e g = omega (arith, number-split b at 4 4)
-
 -- four bytes stored one after the other
 pub word-put : (b : List ℕ) (at x : ℕ) → at + 4 ≤ length b → set (set (set (set b at (x / 16777216 % 256)) (at + 1) (x / 65536 % 256)) (at + 2) (x / 256 % 256)) (at + 3) (x % 256) ≡ patched b at 4 (bytesOf 4 x)
 unfolding bytesOf
 word-put b at x h = rw (add-one at, add-two at, add-three at, div-div-eq-div-mul x 256 256, div-div-eq-div-mul x 65536 256) (sets-eq (x / 16777216 % 256 ∷ x / 65536 % 256 ∷ x / 256 % 256 ∷ x % 256 ∷ []) b at h)
-
--- eight bytes, by their halves
-pub long-put : (b c d : List ℕ) (at x : ℕ) → at + 8 ≤ length b → c ≡ patched b at 4 (bytesOf 4 (x / 4294967296)) → d ≡ patched c (at + 4) 4 (bytesOf 4 x) → d ≡ patched b at 8 (bytesOf 8 x)
-long-put b c d at x h e g =
-    let high = bytesOf 4 (x / 4294967296) in
-    g
-    ∙ ap (λ (l : List ℕ). patched l (at + 4) 4 (bytesOf 4 x)) e
-    ∙ patch-next b high (bytesOf 4 x) at 4 4 (bytes-length 4 (x / 4294967296)) (omega arith)
-    ∙ ap (patched b at 8) (sym (bytes-split 4 4 x))

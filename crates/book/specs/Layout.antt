@@ -1,8 +1,12 @@
 -- The book's layout: numbered tables, one for each field, one after the other. docs/LAYOUT.md says the same in prose.
 -- Assumes nothing.
+use mathlib.Core.Bool.{Bool, true}
+use mathlib.Core.Path.{_≡_}
 use mathlib.Core.List.{List, [], _∷_, _++_}
-use Prim.Native.Nat.{ℕ, _+_, _*_}
+use Prim.Native.Nat.{ℕ, zero, suc, _+_, _*_}
+use lib.Dec.{eqb}
 use lib.ListN.{getD}
+use Rattle.laws.specs.Lists.{every}
 use Rattle.laws.specs.Sum.{sum}
 
 -- a table: its rows, and the bytes of each
@@ -220,6 +224,11 @@ layout =
     ∷ table 589 4
     ∷ []
 
+-- n tables one after the other, from one on
+abbrev pub tablesFrom : ℕ → ℕ → List ℕ
+tablesFrom zero f = []
+tablesFrom (suc n) f = f ∷ tablesFrom n (suc f)
+
 -- the tables of one thing, by name; every table stands in one of these groups (TablesNamed)
 abbrev pub headTables : List ℕ
 headTables = today ∷ tolerance ∷ nextNumber ∷ []
@@ -251,6 +260,13 @@ keyTables = exposureGivers ∷ exposureTakers ∷ exposureBaskets ∷ exposureCl
 abbrev pub exposureTables : List ℕ
 exposureTables = inUse ∷ (keyTables ++ (exposureAmounts ∷ []))
 
+-- all tables, group by group
+abbrev pub allTables : List ℕ
+allTables =
+    headTables
+    ++ (securityTables
+    ++ (profileTables ++ (waitingTables ++ (basketTables ++ (requestTables ++ (exposureTables ++ (accounts ∷ positions ∷ spares ∷ [])))))))
+
 abbrev pub rowsOf : ℕ → ℕ
 rowsOf f = getD layout f (table 0 0) .rows
 
@@ -267,3 +283,20 @@ baseOf f = sum sizeOf f
 -- where the row i of a table stands
 abbrev pub placeOf : ℕ → ℕ → ℕ
 placeOf f i = baseOf f + widthOf f * i
+
+-- each of some tables has n rows
+abbrev pub haveRows : ℕ → List ℕ → Bool
+haveRows n tables = every (λ f. eqb (rowsOf f) n) tables
+
+-- every table stands in one group, which has a row for each of its things ("32 participants (0 to 31), 64 securities, 16 baskets, 256 request
+-- rows, 64 exposures"); the spare rows fill the book
+pub record TablesNamed : Type 0 where
+  pub named : allTables ≡ tablesFrom tableCount 0
+  pub head : haveRows 1 headTables ≡ true
+  pub securities : haveRows 64 securityTables ≡ true
+  pub participants : haveRows 32 (profileTables ++ waitingTables) ≡ true
+  pub baskets : haveRows 16 basketTables ≡ true
+  pub requests : haveRows 256 requestTables ≡ true
+  pub exposures : haveRows 64 exposureTables ≡ true
+  pub holdings : (rowsOf accounts ≡ 32 * 64) × (rowsOf positions ≡ 64 * 64)
+  pub filled : placeOf spares (rowsOf spares) ≡ bookLength

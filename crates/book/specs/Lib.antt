@@ -1,3 +1,4 @@
+pub mod Fits
 pub mod Layout
 pub mod Row
 pub mod State

@@ -1,15 +1,14 @@
 -- The book as a state: a number for each row of each table. The steps and codes above speak of numbers; only the call and the reads as a whole speak of bytes again.
 -- Assumes nothing.
 use mathlib.Core.Bool.{Bool, true, _&&_, cond}
-use mathlib.Core.Path.{_≡_}
 use mathlib.Core.List.{List, [], _∷_, _++_}
-use Prim.Native.Nat.{ℕ, zero, suc, _+_, _-_, _/_, _%_, _^_, _≤_, _<_}
+use Prim.Native.Nat.{ℕ, zero, suc, _+_, _-_, _/_, _%_}
 use lib.Dec.{eqb, leb, ltb}
 use lib.ListN.{getD}
 use Rattle.laws.specs.Filled.{filled}
 use Rattle.laws.specs.Lists.{every}
 use Rattle.laws.specs.Numbers.{numberAt, bytesOf}
-use Rattle.book.specs.Layout.{rowsOf, widthOf, placeOf, tableCount, lots}
+use Rattle.book.specs.Layout.{rowsOf, widthOf, placeOf, tableCount, securityTables}
 
 -- the number in the row i of the table f
 abbrev pub State : Type 0
@@ -66,21 +65,9 @@ raised s f start by g j = cond (eqb g f && within start j) (s g j + getD by (j -
 abbrev pub lowered : State → ℕ → ℕ → List ℕ → State
 lowered s f start by g j = cond (eqb g f && within start j) (s g j - getD by (j - start) 0) (s g j)
 
--- what a raise counts on: no number passes four bytes; and a lowering: each number is large enough
-pub record Raisable (s : State) (f start : ℕ) (by : List ℕ) : Type 0 where
-  pub room : (i : ℕ) → i < 64 → s f (start + i) + getD by i 0 < 4294967296
-
-pub record Lowerable (s : State) (f start : ℕ) (by : List ℕ) : Type 0 where
-  pub enough : (i : ℕ) → i < 64 → getD by i 0 ≤ s f (start + i)
-
 -- the securities' four columns of 64 numbers: lots, prices, haircuts, quote days
 abbrev pub columnsOf : State → List ℕ
-columnsOf s = filled (λ k. s (lots + k / 64) (k % 64)) 256 256
-
--- the numbers fit their bytes, and rows that the layout does not have are 0
-pub record Fits (s : State) : Type 0 where
-  pub fits : (f i : ℕ) → i < rowsOf f → s f i < 256 ^ widthOf f
-  pub blank : (f i : ℕ) → rowsOf f ≤ i → s f i ≡ 0
+columnsOf s = filled (λ k. s (getD securityTables (k / 64) 0) (k % 64)) 256 256
 
 -- the bytes of the rows of a table below n
 unfoldable pub rowsImage : State → ℕ → ℕ → List ℕ

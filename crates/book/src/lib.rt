@@ -7,7 +7,8 @@ ghost use lib.ListN.{length, take, drop};
 ghost use Rattle.laws.specs.Numbers.{numberAt, bytesOf};
 ghost use Rattle.book.specs.Layout.{rowsOf, widthOf, baseOf, bookLength, tableCount};
 ghost use Rattle.book.specs.Row.{RowRaisable, RaisedRow, RowLowerable, LoweredRow};
-ghost use Rattle.book.specs.State.{state, put, rowAt, columnsOf, raised, lowered, Raisable, Lowerable};
+ghost use Rattle.book.specs.State.{state, put, rowAt, columnsOf, raised, lowered};
+ghost use Rattle.book.specs.Fits.{Raisable, Lowerable};
 
 pub mod layout;
 

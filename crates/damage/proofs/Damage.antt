@@ -12,7 +12,7 @@ use Rattle.book.specs.Layout.{bookLength}
 use Rattle.book.specs.State.{state}
 use Rattle.rules.specs.Call.{opens}
 use Rattle.rules.specs.Sound.{sound}
-use Rattle.damage.specs.Damage.{codeAfter, bookCode, damage}
+use Rattle.damage.specs.Damage.{codeAfter, bookDamage, damage}
 
 -- the kind's byte
 module _ (r : List ℕ) where
@@ -24,23 +24,23 @@ module _ (r : List ℕ) where
 
 -- the tests of the book
 module _ (b : List ℕ) (o : Bool) where
-  pub other-length : (length b ≡ 49152 → ⊥) → 1 ≡ bookCode b o
+  pub other-length : (length b ≡ 49152 → ⊥) → 1 ≡ bookDamage b o
   other-length n = rw (ne-eqb (length b) 49152 n)
 
   module _ (long : length b ≡ 49152) where
-    pub opening-passes : o ≡ true → 0 ≡ bookCode b o
+    pub opening-passes : o ≡ true → 0 ≡ bookDamage b o
     opening-passes h = rw (long, h)
 
     module _ {t : Bool} (f : t ≡ sound (state b)) where
-      pub sound-passes : t ≡ true → 0 ≡ bookCode b o
+      pub sound-passes : t ≡ true → 0 ≡ bookDamage b o
       sound-passes h = rw (long, sym f ∙ h, and-false)
 
-      pub unsound-refused : o ≡ false → t ≡ false → 2 ≡ bookCode b o
+      pub unsound-refused : o ≡ false → t ≡ false → 2 ≡ bookDamage b o
       unsound-refused h n = rw (long, h, sym f ∙ n)
 
 -- by a record
-pub by-record : (b r : List ℕ) {o : Bool} {c : ℕ} → o ≡ opens r → c ≡ bookCode b o → c ≡ damage b r
-by-record b r e f = f ∙ ap (bookCode b) e
+pub by-record : (b r : List ℕ) {o : Bool} {c : ℕ} → o ≡ opens r → c ≡ bookDamage b o → c ≡ damage b r
+by-record b r e f = f ∙ ap (bookDamage b) e
 
 -- past the tests: the right length, and sound or an opening
 pub record Passed (b : List ℕ) (o : Bool) : Type 0 where
@@ -58,13 +58,13 @@ damage-first true false n h = absurd (h refl)
 damage-first false d n h = refl
 
 module _ (b : List ℕ) (o : Bool) where
-  pub passes : {c : ℕ} → c ≡ bookCode b o → c ≡ 0 → Passed b o
+  pub passes : {c : ℕ} → c ≡ bookDamage b o → c ≡ 0 → Passed b o
   passes e z =
       let t = by-tests (eqb (length b) bookLength) (not o && not (sound (state b))) (sym e ∙ z) in
       record { long = eqb-true (length b) bookLength (t .0); no-damage = t .1 }
 
   -- either is the code, whatever comes next; and without them what comes next is
-  pub damaged-code : (n : ℕ) {c : ℕ} → c ≡ bookCode b o → (c ≡ 0 → ⊥) → codeAfter b o n ≡ c
+  pub damaged-code : (n : ℕ) {c : ℕ} → c ≡ bookDamage b o → (c ≡ 0 → ⊥) → codeAfter b o n ≡ c
   damaged-code n e some = damage-first (eqb (length b) bookLength) (not o && not (sound (state b))) n (λ z. some (e ∙ z)) ∙ sym e
 
   pub passed-code : (n : ℕ) → Passed b o → codeAfter b o n ≡ n

@@ -15,9 +15,9 @@ abbrev pub codeAfter : List ℕ → Bool → ℕ → ℕ
 codeAfter book opening n = cond (not (eqb (length book) bookLength)) 1 (cond (not opening && not (sound (state book))) 2 n)
 
 -- those two alone
-abbrev pub bookCode : List ℕ → Bool → ℕ
-bookCode book opening = codeAfter book opening 0
+abbrev pub bookDamage : List ℕ → Bool → ℕ
+bookDamage book opening = codeAfter book opening 0
 
 -- and those of a call with a record's bytes
 abbrev pub damage : List ℕ → List ℕ → ℕ
-damage book bytes = bookCode book (opens bytes)
+damage book bytes = bookDamage book (opens bytes)

@@ -1,51 +1,64 @@
--- The stages of a day change before exposures are closed: what each of their steps keeps, and the whole.
+-- The passes of a day change, one after the other, are the next day.
 -- Assumes nothing.
-use mathlib.Core.Path.{_≡_, refl, _∙_}
-use Prim.Native.Nat.{ℕ}
+use mathlib.Core.Path.{_≡_}
+use mathlib.Core.Bool.{Bool, true}
+use mathlib.Core.List.{List}
+use Prim.Native.Nat.{ℕ, _+_, _≤_, _<_}
+use lib.ListN.{length, getD}
 use Rattle.laws.specs.Search.{count}
+use Rattle.laws.specs.Sum.{sum}
+use Rattle.laws.proofs.Least.{count-le}
 use Rattle.calendar.specs.Target.{nextOpenDay}
-use Rattle.book.specs.Layout.{today}
-use Rattle.book.specs.State.{State, put}
-use Rattle.rules.specs.DayChange.{isDropped, blanked, rowsDropped, changeTakesEffect, profilesChanged, exposuresClosed, exposuresFreed, dayChanged, nextDay}
-use Rattle.rules.specs.Stock.{holding}
+use Rattle.book.specs.Layout.{bookLength, today}
+use Rattle.book.specs.State.{State, state}
+use Rattle.book.proofs.Images.{state-fits}
+use Rattle.rules.specs.Codes.{nextDayRules}
+use Rattle.rules.specs.DayChange.{rowsDropped, isDone, onNextDay, isClosedFop, exposuresClosed, isClosedReturn, exposuresFreed, nextDay}
+use Rattle.rules.specs.Outcome.{lowest}
+use Rattle.rules.specs.Sound.{sound}
+use Rattle.facts.proofs.Written.{sound-facts, facts-sound}
+use Rattle.facts.specs.Good.{Good}
 use Rattle.totals.specs.Totals.{totalsOf}
 use Rattle.totals.specs.declared.Totals.{Totals}
-use Rattle.day_laws.proofs.Each.{each-keeps}
-use Rattle.day_exposures.specs.Parts.{amountsClosed, Closable}
-use Rattle.day_change.specs.Parts.{profileWaits}
+use Rattle.day_laws.proofs.NextDay.{doneDropped, dayBegun, fopsDropped, closingsDone, day-of-call, day-begun, done-dropped-good, day-begun-good, fops-dropped-good, closings-done-good}
+use Rattle.day_exposures.specs.Parts.{amountClosed}
 
--- rows dropped, the new day, the profiles in force
-abbrev pub newDay : State → ℕ → State
-newDay s day = profilesChanged (put (rowsDropped s day) today 0 day)
+-- what the passes count on, each on the state that the one before it leaves
+module _ (b : List ℕ) (long : length b ≡ bookLength) (small : (i : ℕ) → getD b i 0 < 256) (h : sound (state b) ≡ true) (accepted : lowest (nextDayRules (state b)) ≡ 0) where
+  abbrev s : State
+  s = state b
 
--- what a row dropped, another today and a profile changed all keep
-module _ (P : State → Type 0) (row : (t : State) (i : ℕ) → P t → P (blanked t i)) (date : (t : State) (day : ℕ) → P t → P (put t today 0 day)) (profile : (t : State) (p : ℕ) → P t → P (changeTakesEffect t p)) where
-  stages-keep : (s : State) (day : ℕ) → P s → P (newDay s day)
-  unfolding rowsDropped profilesChanged
-  stages-keep s day h =
-      let dropped = each-keeps (isDropped s day) blanked s P 256 (λ t i l p. row t i) h in
-      let t = put (rowsDropped s day) today 0 day in
-      each-keeps (profileWaits t) changeTakesEffect t P 32 (λ t p l w. profile t p) (date (rowsDropped s day) day dropped)
+  good : Good s
+  good = record { facts = sound-facts s h; fits = state-fits b long small }
 
--- the exposures with what they hold, and the amounts to be closed
-pub new-day-closable : (s : State) (day : ℕ) → Closable s → Closable (newDay s day)
-unfolding holding
-new-day-closable =
-    stages-keep Closable
-    (λ t i h. record { giver = h .giver; amount = h .amount; held = h .held })
-    (λ t d h. record { giver = h .giver; amount = h .amount; held = h .held })
-    (λ t p h. record { giver = h .giver; amount = h .amount; held = h .held })
+  pub may-begin : {t₁ : State} → t₁ ≡ rowsDropped isDone s → (sound t₁ ≡ true) × (lowest (nextDayRules t₁) ≡ 0)
+  unfolding nextDayRules
+  may-begin done = rw done (facts-sound (doneDropped s) (done-dropped-good s good accepted .facts), rw (day-of-call s) accepted)
 
-pub new-day-amounts : (s : State) (day : ℕ) → amountsClosed (newDay s day) day ≡ amountsClosed s day
-new-day-amounts s day = stages-keep (λ t. amountsClosed t day ≡ amountsClosed s day) (λ t i h. h) (λ t d h. h) (λ t p h. h) s day refl
+  pub begun-sound : {t₁ t₂ : State} → t₁ ≡ rowsDropped isDone s → t₂ ≡ onNextDay t₁ → sound t₂ ≡ true
+  begun-sound done begun = rw (begun, done) (facts-sound (dayBegun s) (day-begun-good s good accepted .facts))
 
--- all stages, on the next open day
-module _ (s : State) {day : ℕ} (dq : day ≡ nextOpenDay (s today 0)) where
-  pub day-totals : {dropped closed : ℕ} → dropped ≡ count (isDropped s day) 256 0 → closed ≡ amountsClosed (newDay s day) day
-      → _≡_ {A = Totals} (record { a = day; b = dropped; m = closed }) (totalsOf (nextDay s))
+  pub fops-sound : {t₁ t₂ t₃ : State} → t₁ ≡ rowsDropped isDone s → t₂ ≡ onNextDay t₁ → t₃ ≡ rowsDropped isClosedFop t₂ → sound t₃ ≡ true
+  fops-sound done begun fops = rw (fops, begun, done) (facts-sound (fopsDropped s) (fops-dropped-good s good accepted .facts))
+
+  pub closed-sound : {t₁ t₂ t₃ t₄ : State} → t₁ ≡ rowsDropped isDone s → t₂ ≡ onNextDay t₁ → t₃ ≡ rowsDropped isClosedFop t₂ → t₄ ≡ exposuresClosed t₃ → sound t₄ ≡ true
+  closed-sound done begun fops closed = rw (closed, fops, begun, done) (facts-sound (closingsDone s) (closings-done-good s good accepted .facts))
+
+-- no pass drops more than all rows
+pub dropped-le : (t : ℕ → Bool) {d : ℕ} → d ≡ count t 256 0 → d ≤ 256
+dropped-le t q = rw q (count-le t 256 0)
+
+-- what they leave
+module _ (s : State) {d day f m r : ℕ} {t₁ t₂ t₃ t₄ t₅ t₆ : State}
+    (done : (d ≡ count (isDone s) 256 0) × (t₁ ≡ rowsDropped isDone s))
+    (begun : (day ≡ nextOpenDay (t₁ today 0)) × (t₂ ≡ onNextDay t₁))
+    (fops : (f ≡ count (isClosedFop t₂) 256 0) × (t₃ ≡ rowsDropped isClosedFop t₂))
+    (closed : (m ≡ sum (amountClosed t₃) 64) × (t₄ ≡ exposuresClosed t₃))
+    (returns : (r ≡ count (isClosedReturn t₄) 256 0) × (t₅ ≡ rowsDropped isClosedReturn t₄))
+    (freed : t₆ ≡ exposuresFreed t₅) where
+  pub passes : (_≡_ {A = Totals} (record { a = day; b = d + f + r; m = m }) (totalsOf (nextDay s))) × (t₆ ≡ nextDay s .state)
   unfolding nextDay
-  day-totals r c = rw (r, c, new-day-amounts s day, dq)
-
-  pub day-changed : {t u : State} → t ≡ exposuresClosed (newDay s day) day → u ≡ exposuresFreed t → u ≡ nextDay s .state
-  unfolding nextDay dayChanged
-  day-changed q h = h ∙ rw (q, dq)
+  passes = (
+    rw (done .0, begun .0, fops .0, closed .0, returns .0, closed .1, fops .1, begun .1, done .1, day-begun s, day-of-call s),
+    rw (freed, returns .1, closed .1, fops .1, begun .1, done .1),
+  )

@@ -3,10 +3,11 @@ ghost use mathlib.Core.Path.{_≡_};
 ghost use mathlib.Core.Bool.{true};
 ghost use Prim.Native.Nat.{_<_};
 ghost use lib.ListN.{length};
-ghost use Rattle.book.specs.Layout.{bookLength, tableCount, rowsOf, widthOf};
+ghost use Rattle.calendar.specs.Target.{nextOpenDay};
+ghost use Rattle.book.specs.Layout.{bookLength, tableCount, rowsOf, widthOf, today};
 ghost use Rattle.book.specs.State.{state, put};
 ghost use Rattle.rules.specs.Codes.{nextDayRules};
-ghost use Rattle.rules.specs.DayChange.{changeTakesEffect, profilesChanged, nextDay};
+ghost use Rattle.rules.specs.DayChange.{changeTakesEffect, profilesChanged, onNextDay, nextDay};
 ghost use Rattle.rules.specs.Outcome.{lowest};
 ghost use Rattle.rules.specs.Sound.{sound};
 ghost use Rattle.totals.specs.Totals.{totalsOf};
@@ -20,6 +21,7 @@ use book::layout::WAITING_LISTS;
 use book::layout::WAITING_MODES;
 use book::layout::WAITING_PARTIALS;
 use calendar::LAST_DAY;
+use day_rows::Pass;
 use totals::Totals;
 
 // 12: the code. There may be no next day.
@@ -68,21 +70,32 @@ fn change_profiles(book: &mut [u8])
     }
 }
 
-// 12: the step.
+// Goes to the next open day, with the profiles that waited for it: the day.
+fn begin_day(book: &mut [u8]) -> u64
+    requires { ⌜ (length (now book) ≡ bookLength) × (sound (state (now book)) ≡ true) × (lowest (nextDayRules (state (now book))) ≡ 0) ⌝ }
+    ensures { λ r. ⌜ (r ≡ nextOpenDay (state (now (book .entry)) today 0)) × (state (now (book .exit)) ≡ onNextDay (state (now (book .entry)))) ⌝ }
+{
+    let today = book::get(book, TODAY, 0);
+    let next = calendar::next_open_day(today);
+    book::set(book, TODAY, 0, next);
+    change_profiles(book);
+    next
+}
+
+// 12: the step, pass by pass in the paper's order.
 pub fn next_day(book: &mut [u8]) -> Totals
     requires { ⌜ (length (now book) ≡ bookLength) × (sound (state (now book)) ≡ true) × (lowest (nextDayRules (state (now book))) ≡ 0) ⌝ }
     ensures { λ r. ⌜ (r ≡ totalsOf (nextDay (state (now (book .entry))))) × (state (now (book .exit)) ≡ nextDay (state (now (book .entry))) .state) ⌝ }
 {
-    let today = book::get(book, TODAY, 0);
-    let day = calendar::next_open_day(today);
-    let dropped = day_rows::drop_rows(book, day);
-    book::set(book, TODAY, 0, day);
-    change_profiles(book);
-    let closed = day_exposures::close_exposures(book, day);
+    let done = day_rows::drop_rows(book, Pass::Done);
+    let day = begin_day(book);
+    let fops = day_rows::drop_rows(book, Pass::ClosedFops);
+    let closed = day_exposures::close_exposures(book);
+    let returns = day_rows::drop_rows(book, Pass::ClosedReturns);
     day_exposures::free_exposures(book);
     Totals {
         a: day,
-        b: dropped,
+        b: done + fops + returns,
         m: closed,
     }
 }

@@ -1,3 +1,4 @@
+pub mod Back
 pub mod Exposures
 pub mod Marks
 pub mod Returns

@@ -1,7 +1,7 @@
 -- Exposures by the marks of the rows that belong to them.
 -- Assumes nothing.
 use mathlib.Core.Path.{_≡_, sym, ap, _∙_}
-use mathlib.Core.Bool.{Bool, true, false, not, _&&_, _||_}
+use mathlib.Core.Bool.{Bool, true, _&&_}
 use mathlib.Core.List.{List, [], _∷_}
 use mathlib.Core.Logic.{⊎-elim}
 use Prim.Native.Nat.{ℕ, _+_, _≤_, _<_}
@@ -12,12 +12,11 @@ use lib.ListN.{length, getD, set, length-set, replicate, length-replicate, getD-
 use lib.Seq.{getD-set-same, getD-set-other}
 use borrow.Author.Tests.{eqb-true, ne-eqb}
 use Rattle.laws.proofs.Cases.{either, clash}
-use Rattle.book.specs.Layout.{numbers, requestKinds, givers, takers, basketsOrExposures, closings, partners, inUse, exposureGivers, exposureTakers, exposureBaskets, exposureClosings, exposureAmounts}
+use Rattle.book.specs.Layout.{numbers, requestKinds, givers, takers, basketsOrExposures, closings, inUse, exposureGivers, exposureTakers, exposureBaskets, exposureClosings, exposureAmounts}
 use Rattle.book.specs.State.{State}
 use Rattle.rules.specs.DayChange.{belongs, isIdle, exposureFreed, onEach}
 use Rattle.rules.specs.Requests.{isUsed, isFop, isPaired, hasKey}
-use Rattle.facts.proofs.Facts.{all-of}
-use Rattle.facts.proofs.Truth.{split}
+use Rattle.facts.proofs.Truth.{split, all-of}
 use Rattle.exposure_search.specs.Keys.{keySlot}
 use Rattle.exposure_search.specs.Slots.{slotOf}
 use Rattle.day_laws.proofs.Each.{each-keeps}

@@ -1,25 +1,16 @@
 -- What each return of the tests of an exposure shows.
 -- Assumes nothing.
 use mathlib.Core.Path.{_≡_, sym, _∙_}
-use mathlib.Core.Bool.{Bool, true, false, and-false}
+use mathlib.Core.Bool.{Bool, false, and-false, or-false}
 use Prim.Native.Nat.{ℕ}
 use lib.Dec.{eqb}
 use borrow.Author.Tests.{eq-eqb, ne-eqb}
 use Rattle.laws.specs.Search.{all}
-use Rattle.book.specs.Layout.{numbers, requestKinds, givers, takers, basketsOrExposures, closings, partners, inUse, exposureClosings, exposureAmounts}
+use Rattle.book.specs.Layout.{numbers, requestKinds, givers, takers, basketsOrExposures, closings, partners, inUse, exposureAmounts}
 use Rattle.book.specs.State.{State}
-use Rattle.rules.specs.DayChange.{isReached, isExposureClosed, belongs, isIdle}
+use Rattle.rules.specs.DayChange.{belongs, isIdle}
 use Rattle.rules.specs.Requests.{hasKey}
-use Rattle.day_rows.proofs.Returns.{or-none}
 use Rattle.day_exposures.specs.Parts.{isNotOf}
-
--- an exposure whose closing date is reached
-module _ (s : State) (day e : ℕ) {u : ℕ} (uq : u ≡ s inUse e) where
-  pub not-used : (u ≡ 1 → ⊥) → false ≡ isExposureClosed s day e
-  not-used n = rw (← uq, ne-eqb u 1 n)
-
-  pub by-reached : {c : ℕ} {b : Bool} → u ≡ 1 → c ≡ s exposureClosings e → b ≡ isReached day c → b ≡ isExposureClosed s day e
-  by-reached z cq bq = rw (← uq, z, ← cq) bq
 
 -- a row that belongs to an exposure
 module _ (s : State) (e i : ℕ) {n : ℕ} (nq : n ≡ s numbers i) where
@@ -28,7 +19,7 @@ module _ (s : State) (e i : ℕ) {n : ℕ} (nq : n ≡ s numbers i) where
 
   module _ (used : n ≡ 0 → ⊥) {k : ℕ} (kq : k ≡ s requestKinds i) where
     pub by-name : {o : ℕ} → k ≡ 7 → o ≡ s basketsOrExposures i → eqb o e ≡ belongs s e i
-    by-name z oq = rw (← nq, ne-eqb n 0 used, ← kq, z, ← oq) (sym (or-none (eqb _ e)))
+    by-name z oq = rw (← nq, ne-eqb n 0 used, ← kq, z, ← oq, or-false)
 
     pub no-kind : (k ≡ 7 → ⊥) → (k ≡ 6 → ⊥) → false ≡ belongs s e i
     no-kind a b = rw (← kq, ne-eqb k 7 a, ne-eqb k 6 b, and-false)

@@ -3,31 +3,38 @@
 use mathlib.Core.Path.{_≡_}
 use mathlib.Core.Bool.{Bool, true, not, cond}
 use mathlib.Core.List.{List}
-use Prim.Native.Nat.{ℕ, _≤_, _<_}
+use Prim.Native.Nat.{ℕ, _+_, _*_, _≤_, _<_}
+use lib.Dec.{eqb}
 use lib.ListN.{length, getD}
-use Rattle.laws.specs.Sum.{sum}
-use Rattle.book.specs.Layout.{inUse, exposureGivers, exposureAmounts}
-use Rattle.book.specs.State.{State}
+use Rattle.limits.specs.Limits.{greatestExposure, greatestNominal}
+use Rattle.book.specs.Layout.{inUse, exposureGivers, exposureAmounts, accounts, positions}
+use Rattle.book.specs.State.{State, put}
 use Rattle.rules.specs.DayChange.{isExposureClosed, belongs}
 use Rattle.rules.specs.Stock.{holding}
 use Rattle.exposure_search.specs.Slots.{slotOf}
 
--- the test of an exposure to be closed, at a row of a state
-abbrev pub closesOn : ℕ → State → ℕ → Bool
-closesOn day s e = isExposureClosed s day e
+-- what an exposure adds to the amounts closed
+abbrev pub amountClosed : State → ℕ → ℕ
+amountClosed s e = cond (isExposureClosed s e) (s exposureAmounts e) 0
 
--- what an exposure adds to the amounts closed, and all of them
-abbrev pub amountClosed : State → ℕ → ℕ → ℕ
-amountClosed s day e = cond (isExposureClosed s day e) (s exposureAmounts e) 0
+-- a security is held in an exposure's position; it goes back to the owner's account
+abbrev pub isHeld : ℕ → State → ℕ → Bool
+isHeld e s i = not (eqb (s positions (64 * e + i)) 0)
 
-abbrev pub amountsClosed : State → ℕ → ℕ
-amountsClosed s day = sum (amountClosed s day) 64
+abbrev pub securityBack : ℕ → ℕ → State → ℕ → State
+securityBack owner e s i = put (put s accounts (64 * owner + i) (s accounts (64 * owner + i) + s positions (64 * e + i))) positions (64 * e + i) 0
 
--- what closing an exposure counts on, and keeps
+-- what giving a whole position back counts on: account and position together fit four bytes
+pub record Entire (s : State) (e : ℕ) : Type 0 where
+  pub below : e < 64
+  pub giver : s exposureGivers e < 32
+  pub room : (i : ℕ) → i < 64 → s accounts (64 * s exposureGivers e + i) + s positions (64 * e + i) < 4294967296
+
+-- what closing an exposure counts on
 pub record Closable (s : State) : Type 0 where
   pub giver : (e : ℕ) → e < 64 → s inUse e ≡ 1 → s exposureGivers e < 32
-  pub amount : (e : ℕ) → e < 64 → s inUse e ≡ 1 → s exposureAmounts e ≤ 10000000000000
-  pub held : (p i : ℕ) → p < 32 → i < 64 → holding s p i ≤ 500000000
+  pub amount : (e : ℕ) → e < 64 → s inUse e ≡ 1 → s exposureAmounts e ≤ greatestExposure
+  pub held : (p i : ℕ) → p < 32 → i < 64 → holding s p i ≤ greatestNominal
 
 -- a row does not belong to an exposure
 abbrev pub isNotOf : State → ℕ → ℕ → Bool

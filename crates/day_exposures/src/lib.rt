@@ -1,18 +1,23 @@
 // Kind 12, next day: exposures whose closing date is reached are closed, and idle ones freed.
 // An exposure is tested and changed in one pass: no test reads what the steps on those before it have changed.
 ghost use mathlib.Core.Path.{_≡_};
-ghost use Prim.Native.Nat.{_<_};
+ghost use mathlib.Core.Bool.{true};
+ghost use Prim.Native.Nat.{_+_, _*_, _<_};
 ghost use lib.ListN.{length, replicate};
 ghost use Rattle.laws.specs.Search.{all};
-ghost use Rattle.book.specs.Layout.{bookLength};
+ghost use Rattle.laws.specs.Sum.{sum};
+ghost use Rattle.book.specs.Layout.{bookLength, accounts, positions};
 ghost use Rattle.book.specs.State.{state};
 ghost use Rattle.rules.specs.DayChange.{isExposureClosed, exposureClosed, exposuresClosed, belongs, isIdle, exposureFreed, exposuresFreed};
+ghost use Rattle.rules.specs.Sound.{sound};
+ghost use Rattle.rules.specs.Stock.{positionOf, giveBack};
 ghost use Rattle.day_rows.specs.Parts.{tried};
-ghost use Rattle.day_exposures.specs.Parts.{closesOn, amountClosed, amountsClosed, Closable, isNotOf, RowSlot, Marked, MarkedFor};
+ghost use Rattle.day_exposures.specs.Parts.{amountClosed, isHeld, securityBack, Entire, Closable, isNotOf, RowSlot, Marked, MarkedFor};
+use book::layout::ACCOUNTS;
 use book::layout::BASKETS_OR_EXPOSURES;
 use book::layout::CLOSINGS;
 use book::layout::EXPOSURE_AMOUNTS;
-use book::layout::EXPOSURE_CLOSINGS;
+use book::layout::EXPOSURE_GIVERS;
 use book::layout::GIVERS;
 use book::layout::IN_USE;
 use book::layout::NUMBERS;
@@ -21,26 +26,40 @@ use book::layout::POSITIONS;
 use book::layout::REQUEST_KINDS;
 use book::layout::TAKERS;
 
-// Is an exposure used, and its closing date reached?
-fn is_exposure_closed(book: &[u8], day: u64, e: usize) -> bool
-    requires { ⌜ (length (now book) ≡ bookLength) × (e < 64) ⌝ }
-    ensures { λ r. ⌜ r ≡ isExposureClosed (state (now (book .entry))) day e ⌝ }
+// Gives one security of a position back to its owner, where it is held.
+fn give_security(book: &mut [u8], owner: usize, e: usize, i: usize)
+    requires { ⌜ (length (now book) ≡ bookLength) × (owner < 32) × (e < 64) × (i < 64) × (state (now book) accounts (64 * owner + i) + state (now book) positions (64 * e + i) < 4294967296) ⌝ }
+    ensures { λ _. ⌜ state (now (book .exit)) ≡ tried (isHeld e) (securityBack owner e) (state (now (book .entry))) i ⌝ }
 {
-    if book::get(book, IN_USE, e) != 1 {
-        return false;
+    let nominal = book::get(book, POSITIONS, 64 * e + i);
+    if nominal != 0 {
+        let before = book::get(book, ACCOUNTS, 64 * owner + i);
+        book::set(book, ACCOUNTS, 64 * owner + i, before + nominal);
+        book::set(book, POSITIONS, 64 * e + i, 0);
     }
-    day_rows::is_reached(day, book::get(book, EXPOSURE_CLOSINGS, e))
+}
+
+// Gives a whole position back. Most securities are not held: looking at each takes less time than adding rows of 64.
+fn give_position(book: &mut [u8], e: usize)
+    requires { ⌜ (length (now book) ≡ bookLength) × Entire (state (now book)) e ⌝ }
+    ensures { λ _. ⌜ state (now (book .exit)) ≡ giveBack (state (now (book .entry))) e (positionOf (state (now (book .entry))) e) ⌝ }
+{
+    let owner = book::get(book, EXPOSURE_GIVERS, e) as usize;
+    let mut i: usize = 0;
+    while i < 64 {
+        give_security(book, owner, e, i);
+        i += 1;
+    }
 }
 
 // Closes an exposure whose closing date is reached, and gives its position back: the amount closed.
-fn close_exposure(book: &mut [u8], day: u64, e: usize) -> u64
+fn close_exposure(book: &mut [u8], e: usize) -> u64
     requires { ⌜ (length (now book) ≡ bookLength) × (e < 64) × Closable (state (now book)) ⌝ }
-    ensures { λ r. ⌜ (r ≡ amountClosed (state (now (book .entry))) day e) × (state (now (book .exit)) ≡ tried (closesOn day) exposureClosed (state (now (book .entry))) e) ⌝ }
+    ensures { λ r. ⌜ (r ≡ amountClosed (state (now (book .entry))) e) × (state (now (book .exit)) ≡ tried isExposureClosed exposureClosed (state (now (book .entry))) e) ⌝ }
 {
-    if is_exposure_closed(book, day, e) {
+    if day_rows::is_exposure_closed(book, e) {
         let amount = book::get(book, EXPOSURE_AMOUNTS, e);
-        let position = book::row_at(book, POSITIONS, 64 * e);
-        bonds::give_back(book, e, &position);
+        give_position(book, e);
         book::set(book, EXPOSURE_AMOUNTS, e, 0);
         amount
     } else {
@@ -49,14 +68,14 @@ fn close_exposure(book: &mut [u8], day: u64, e: usize) -> u64
 }
 
 // Closes the exposures whose closing date is reached: the amounts closed.
-pub fn close_exposures(book: &mut [u8], day: u64) -> u64
-    requires { ⌜ (length (now book) ≡ bookLength) × Closable (state (now book)) ⌝ }
-    ensures { λ r. ⌜ (r ≡ amountsClosed (state (now (book .entry))) day) × (state (now (book .exit)) ≡ exposuresClosed (state (now (book .entry))) day) ⌝ }
+pub fn close_exposures(book: &mut [u8]) -> u64
+    requires { ⌜ (length (now book) ≡ bookLength) × (sound (state (now book)) ≡ true) ⌝ }
+    ensures { λ r. ⌜ (r ≡ sum (amountClosed (state (now (book .entry)))) 64) × (state (now (book .exit)) ≡ exposuresClosed (state (now (book .entry)))) ⌝ }
 {
     let mut closed: u64 = 0;
     let mut e: usize = 0;
     while e < 64 {
-        closed += close_exposure(book, day, e);
+        closed += close_exposure(book, e);
         e += 1;
     }
     closed
@@ -186,7 +205,7 @@ fn free_exposure(book: &mut [u8], marks: &[u8; 1025], e: usize)
     ensures { λ _. ⌜ state (now (book .exit)) ≡ tried isIdle exposureFreed (state (now (book .entry))) e ⌝ }
 {
     if is_idle(book, marks, e) {
-        day_rows::clear(book, 5, IN_USE, e);
+        day_rows::clear(book, 6, IN_USE, e);
     }
 }
 

@@ -12,13 +12,25 @@ use Rattle.laws.proofs.Cases.{either}
 use Rattle.book.specs.State.{State}
 use Rattle.rules.specs.DayChange.{onEach}
 
+-- a number that only the turn i changes: before that turn and after it
+module _ (x : ℕ → ℕ) (i : ℕ) (other : (n : ℕ) → (i ≡ n → ⊥) → x (suc n) ≡ x n) where
+  pub before-turn : (n : ℕ) → n ≤ i → x n ≡ x 0
+  before-turn zero l = refl
+  before-turn (suc n) l = other n (omega arith) ∙ before-turn n (omega arith)
+
+  pub after-turn : (n : ℕ) → i < n → x n ≡ x (suc i)
+  after-turn zero l = absurd (omega arith)
+  after-turn (suc n) l =
+      let before = after-turn n in
+      elim (ℕ-discrete i n) [ yes e ↦ ap (λ (k : ℕ). x (suc k)) (sym e) | no d ↦ other n d ∙ before (omega arith) ]
+
 module _ (test : ℕ → Bool) (step : State → ℕ → State) (s : State) where
   -- a turn as it is taken, and one that is left out
-  pub turn-taken : (n : ℕ) → test n ≡ true → onEach test step (suc n) s ≡ step (onEach test step n s) n
+  turn-taken : (n : ℕ) → test n ≡ true → onEach test step (suc n) s ≡ step (onEach test step n s) n
   unfolding onEach
   turn-taken n e = rw e
 
-  pub turn-left : (n : ℕ) → test n ≡ false → onEach test step (suc n) s ≡ onEach test step n s
+  turn-left : (n : ℕ) → test n ≡ false → onEach test step (suc n) s ≡ onEach test step n s
   unfolding onEach
   turn-left n e = rw e
 
@@ -36,28 +48,22 @@ module _ (test : ℕ → Bool) (step : State → ℕ → State) (s : State) wher
       (λ e. rw (turn-left n e) before)
       (either (test n))
 
-  -- a place that only its own turn changes: before that turn and after it
-  module _ (f i : ℕ) (own : (t : State) (j : ℕ) → (i ≡ j → ⊥) → step t j f i ≡ t f i) where
-    other-turn : (n : ℕ) → (i ≡ n → ⊥) → onEach test step (suc n) s f i ≡ onEach test step n s f i
+  -- a number of the state that only the turn i changes
+  module _ (read : State → ℕ) (i : ℕ) (own : (t : State) (j : ℕ) → (i ≡ j → ⊥) → read (step t j) ≡ read t) where
+    other-turn : (n : ℕ) → (i ≡ n → ⊥) → read (onEach test step (suc n) s) ≡ read (onEach test step n s)
     other-turn n d =
         ⊎-elim
         (λ (e : test n ≡ true). rw (turn-taken n e) (own (onEach test step n s) n d))
         (λ (e : test n ≡ false). rw (turn-left n e))
         (either (test n))
 
-    pub place-ahead : (n : ℕ) → n ≤ i → onEach test step n s f i ≡ s f i
-    place-ahead zero l = rw no-turn
-    place-ahead (suc n) l = other-turn n (omega arith) ∙ place-ahead n (omega arith)
+    pub place-ahead : (n : ℕ) → n ≤ i → read (onEach test step n s) ≡ read s
+    place-ahead n l = rw no-turn at (before-turn (λ n. read (onEach test step n s)) i other-turn n l)
 
-    own-turn : onEach test step (suc i) s f i ≡ cond (test i) (step (onEach test step i s) i f i) (s f i)
-    own-turn =
-        ⊎-elim
+    pub place-passed : (n : ℕ) → i < n → read (onEach test step n s) ≡ cond (test i) (read (step (onEach test step i s) i)) (read s)
+    place-passed n l =
+        after-turn (λ n. read (onEach test step n s)) i other-turn n l
+        ∙ ⊎-elim
         (λ (e : test i ≡ true). rw (turn-taken i e, e))
         (λ (e : test i ≡ false). rw (turn-left i e, e) (place-ahead i (le-refl i)))
         (either (test i))
-
-    pub place-passed : (n : ℕ) → i < n → onEach test step n s f i ≡ cond (test i) (step (onEach test step i s) i f i) (s f i)
-    place-passed zero l = absurd (omega arith)
-    place-passed (suc n) l =
-        let before = place-passed n in
-        elim (ℕ-discrete i n) [ yes e ↦ ap (λ (k : ℕ). onEach test step (suc k) s f i) (sym e) ∙ own-turn | no d ↦ other-turn n d ∙ before (omega arith) ]

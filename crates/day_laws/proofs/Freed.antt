@@ -2,44 +2,40 @@
 -- Assumes nothing.
 use mathlib.Core.Path.{_≡_, refl, sym}
 use mathlib.Core.Bool.{Bool, true, false, not, _&&_, cond}
-use mathlib.Core.List.{List, [], _∷_}
+use mathlib.Core.List.{[], _∷_}
 use mathlib.Core.Logic.{⊎-elim}
-use Prim.Native.Nat.{ℕ, _+_, _*_, _≤_, _<_}
+use Prim.Native.Nat.{ℕ, _+_, _*_, _<_}
 use native.Mathlib.Omega.{arith}
 use lib.Dec.{eqb, ltb}
-use borrow.Author.Tests.{eqb-true, eq-eqb, le-ltb, not-true}
+use borrow.Author.Tests.{eqb-true, eq-eqb, not-true}
 use Rattle.laws.specs.Search.{all}
 use Rattle.laws.proofs.Cases.{either, clash, or-right}
 use Rattle.laws.proofs.Sum.{sum-same}
-use Rattle.book.specs.Layout.{requestKinds, givers, takers, basketsOrExposures, closings, inUse, exposureGivers, exposureTakers, exposureBaskets, exposureClosings, exposureAmounts, positions}
+use Rattle.book.specs.Layout.{requestKinds, givers, takers, basketsOrExposures, closings, inUse, exposureGivers, exposureAmounts, positions, exposureTables}
 use Rattle.book.specs.State.{State}
-use Rattle.rules.specs.DayChange.{onEach, belongs, isIdle, exposureFreed, exposuresFreed}
+use Rattle.rules.specs.DayChange.{belongs, isIdle, exposureFreed, exposuresFreed}
 use Rattle.rules.specs.Requests.{isUsed, isFop, isReturn, isPaired, hasKey, exposureOfFop}
 use Rattle.rules.specs.Stock.{positionFrom, holding}
 use Rattle.rules.specs.ByRow.{soundKind, soundPaired, soundRow, soundExposure, otherKey, distinctKey, soundPosition}
-use Rattle.facts.proofs.Facts.{Sound, all-of, below}
-use Rattle.facts.proofs.Keeps.{Good}
+use Rattle.facts.specs.Good.{Sound, Good}
 use Rattle.facts.proofs.Rows.{Kind, fop, return, used-fields, no-exposure-sound, position-facts}
 use Rattle.facts.proofs.Searches.{least-same}
-use Rattle.facts.proofs.Truth.{Each, split}
-use Rattle.day_laws.proofs.Remade.{remade, cleared-fits, among, stored-row, passed, row-ahead, turns-remade}
+use Rattle.facts.proofs.Truth.{Each, split, all-of, below}
+use Rattle.day_laws.proofs.Remade.{remade, cleared-fits, among, stored-row, passed, turns-remade}
 
 -- a choice between one number and itself
 one-choice : (x : ℕ) (b : Bool) → cond b x x ≡ x
 one-choice x true = refl
 one-choice x false = refl
 
--- the tables of an exposure that is freed, the last first; its amount is 0 already
-abbrev freedTables : List ℕ
-freedTables = exposureClosings ∷ exposureBaskets ∷ exposureTakers ∷ exposureGivers ∷ inUse ∷ []
-
 -- the state with some exposures freed
 abbrev pub freed : State → (ℕ → Bool) → State
-freed s done = remade (among freedTables) (λ row f. 0) done s
+freed s done = remade (among exposureTables) (λ row f. 0) done s
 
--- n turns: the idle exposures passed are free
-pub exposures-turned : (s : State) (n : ℕ) → onEach (isIdle s) exposureFreed n s ≡ freed s (passed (isIdle s) n)
-exposures-turned s n = turns-remade (among freedTables) (λ row f. 0) (isIdle s) exposureFreed (stored-row (λ row f. 0) freedTables) s n
+-- exposures freed: the idle ones are free
+exposures-turned : (s : State) → exposuresFreed s ≡ freed s (passed (isIdle s) 64)
+unfolding exposuresFreed
+exposures-turned s = turns-remade (among exposureTables) (λ row f. 0) (isIdle s) exposureFreed (stored-row (λ row f. 0) exposureTables) s 64
 
 -- what idle says
 module _ (s : State) (e : ℕ) (idle : isIdle s e ≡ true) where
@@ -121,7 +117,7 @@ module _ (s : State) (h : Sound s) (done : ℕ → Bool) (only : (e : ℕ) → d
   freed-exposure e l =
       ⊎-elim
       (λ (d : done e ≡ true).
-      no-exposure-sound (freed s done) e (rw d) (record { giver = rw d; taker = rw d; basket = rw d; closing = rw d; amount = idle-amount s e (only e d) }))
+      no-exposure-sound (freed s done) e (rw d) (record { giver = rw d; taker = rw d; basket = rw d; closing = rw d; amount = rw d }))
       (λ (d : done e ≡ false). rw d (h .exposure e l))
       (either (done e))
 
@@ -177,39 +173,21 @@ module _ (s : State) (h : Sound s) (done : ℕ → Bool) (only : (e : ℕ) → d
     held = λ p i m l. rw (freed-holding p i l) (h .held p i m l);
   }
 
-module _ (s : State) (g : Good s) (n : ℕ) where
-  passed-idle : (e : ℕ) → passed (isIdle s) n e ≡ true → isIdle s e ≡ true
-  passed-idle e h = split (ltb e n ∷ isIdle s e ∷ []) h .1
-
-  -- after each turn the book is good, and no participant's bonds have moved
-  pub exposures-turned-good : Good (onEach (isIdle s) exposureFreed n s)
-  exposures-turned-good =
-      let done = passed (isIdle s) n in
-      rw (exposures-turned s n) (record { facts = freed-sound s (g .facts) done passed-idle; fits = cleared-fits (among freedTables) done s (g .fits) })
-
-  pub exposures-turned-holding : (p i : ℕ) → i < 64 → holding (onEach (isIdle s) exposureFreed n s) p i ≡ holding s p i
-  exposures-turned-holding p i l = rw (exposures-turned s n) (freed-holding s (g .facts) (passed (isIdle s) n) passed-idle p i l)
-
-module _ (s : State) (n : ℕ) where
-  -- exposures to come are as they were, and are told by the same test
-  pub exposure-ahead : (f e : ℕ) → n ≤ e → onEach (isIdle s) exposureFreed n s f e ≡ s f e
-  exposure-ahead f e l = row-ahead (among freedTables) (λ row f. 0) (isIdle s) exposureFreed (stored-row (λ row f. 0) freedTables) s n f e l
-
-  pub idle-ahead : (e : ℕ) → n ≤ e → isIdle (onEach (isIdle s) exposureFreed n s) e ≡ isIdle s e
-  idle-ahead e l = let no : ltb e n ≡ false = le-ltb e n l in rw (exposures-turned s n, no)
-
-module _ (s : State) (g : Good s) where
-  -- all 64 turns
-  pub exposures-freed-good : Good (exposuresFreed s)
-  unfolding exposuresFreed
-  exposures-freed-good = exposures-turned-good s g 64
-
-  pub exposures-freed-holding : (p i : ℕ) → i < 64 → holding (exposuresFreed s) p i ≡ holding s p i
-  unfolding exposuresFreed
-  exposures-freed-holding p i l = exposures-turned-holding s g 64 p i l
-
+-- all of them: a good book, no participant's bonds moved, each amount as it was
 module _ (s : State) where
-  -- the amounts stay
+  abbrev done : ℕ → Bool
+  done = passed (isIdle s) 64
+
+  done-idle : (e : ℕ) → done e ≡ true → isIdle s e ≡ true
+  done-idle e h = split (ltb e 64 ∷ isIdle s e ∷ []) h .1
+
+  pub exposures-freed-good : Good s → Good (exposuresFreed s)
+  exposures-freed-good g = rw (exposures-turned s) (record { facts = freed-sound s (g .facts) done done-idle; fits = cleared-fits (among exposureTables) done s (g .fits) })
+
+  pub exposures-freed-holding : Good s → (p i : ℕ) → i < 64 → holding (exposuresFreed s) p i ≡ holding s p i
+  exposures-freed-holding g p i l = rw (exposures-turned s) (freed-holding s (g .facts) done done-idle p i l)
+
   pub exposures-freed-amount : (e : ℕ) → exposuresFreed s exposureAmounts e ≡ s exposureAmounts e
-  unfolding exposuresFreed
-  exposures-freed-amount e = rw (exposures-turned s 64)
+  exposures-freed-amount e =
+      rw (exposures-turned s)
+      (⊎-elim (λ (d : done e ≡ true). rw d (sym (idle-amount s e (done-idle e d)))) (λ (d : done e ≡ false). rw d) (either (done e)))

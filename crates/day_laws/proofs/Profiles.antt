@@ -2,7 +2,7 @@
 -- Assumes nothing.
 use mathlib.Core.Path.{_≡_}
 use mathlib.Core.Bool.{Bool, true, false, not, _||_, cond}
-use mathlib.Core.List.{List, [], _∷_}
+use mathlib.Core.List.{List, [], _∷_, _++_}
 use mathlib.Core.Logic.{⊎-elim}
 use Prim.Native.Nat.{ℕ, _+_, _-_, _≤_, _<_}
 use native.Mathlib.Omega.{arith}
@@ -12,21 +12,21 @@ use Rattle.laws.specs.Search.{all}
 use Rattle.laws.proofs.Cases.{either, clash, or-cases}
 use Rattle.calendar.specs.Target.{openDay, nextOpenDay, lastDay}
 use Rattle.calendar.proofs.OpenDays.{open-within}
-use Rattle.book.specs.Layout.{today, modes, lists, partials, waitingModes, waitingLists, waitingPartials, givers, takers, exposureGivers, exposureTakers}
-use Rattle.book.specs.State.{State, Fits, put}
+use Rattle.book.specs.Layout.{today, modes, lists, partials, waitingModes, waitingLists, waitingPartials, givers, takers, exposureGivers, exposureTakers, profileTables, waitingTables}
+use Rattle.book.specs.State.{State, put}
+use Rattle.book.specs.Fits.{Fits}
 use Rattle.book.proofs.Images.{put-fits}
 use Rattle.rules.specs.Codes.{nextDayRules}
-use Rattle.rules.specs.DayChange.{onEach, changeTakesEffect, profilesChanged}
+use Rattle.rules.specs.DayChange.{changeTakesEffect, profilesChanged, onNextDay}
 use Rattle.rules.specs.Outcome.{lowest}
 use Rattle.rules.specs.ByRow.{soundProfile, soundParticipant, soundRow, soundExposure}
 use Rattle.rules.specs.Stock.{participantSetUp, holding}
-use Rattle.facts.proofs.Facts.{Sound}
-use Rattle.facts.proofs.Keeps.{Good}
+use Rattle.facts.specs.Good.{Sound, Good}
 use Rattle.facts.proofs.Rows.{head-facts, facts-head}
 use Rattle.facts.proofs.Searches.{least-holds}
 use Rattle.facts.proofs.Truth.{Each, split}
 use Rattle.day_laws.proofs.Each.{each-keeps}
-use Rattle.day_laws.proofs.Remade.{remade, among, stored-row, stored-fits, passed, row-ahead, turns-remade, tables-beside}
+use Rattle.day_laws.proofs.Remade.{remade, among, stored-row, stored-fits, passed, turns-remade}
 
 -- an accepted next day is open
 module _ (s : State) (h : lowest (nextDayRules s) ≡ 0) where
@@ -75,9 +75,9 @@ module _ (s : State) (g : Good s) (day : ℕ) (o : openDay day ≡ true) where
         fits = put-fits s today 0 day (g .fits) (omega arith) (omega arith) (omega (arith, open-within day o));
       }
 
--- the tables of a participant, the last first; and a row of them once the profile that waits is in force
-abbrev pub profileTables : List ℕ
-profileTables = waitingPartials ∷ waitingLists ∷ waitingModes ∷ partials ∷ lists ∷ modes ∷ []
+-- the tables of a participant, and a row of them once the profile that waits is in force
+abbrev pub participantTables : List ℕ
+participantTables = profileTables ++ waitingTables
 
 abbrev inForce : (ℕ → ℕ) → ℕ → ℕ
 inForce row f = cond (ltb f waitingModes) (row (f + 3)) 0
@@ -88,11 +88,12 @@ waits s p = not (eqb (s waitingModes p) 0)
 
 -- the state with the profiles of some participants changed
 abbrev pub changed : State → (ℕ → Bool) → State
-changed s done = remade (among profileTables) inForce done s
+changed s done = remade (among participantTables) inForce done s
 
--- n turns: the profiles that waited there are in force
-pub profiles-turned : (s : State) (n : ℕ) → onEach (waits s) changeTakesEffect n s ≡ changed s (passed (waits s) n)
-profiles-turned s n = turns-remade (among profileTables) inForce (waits s) changeTakesEffect (stored-row inForce profileTables) s n
+-- profiles changed: those that waited are in force
+profiles-turned : (s : State) → profilesChanged s ≡ changed s (passed (waits s) 32)
+unfolding profilesChanged
+profiles-turned s = turns-remade (among participantTables) inForce (waits s) changeTakesEffect (stored-row inForce participantTables) s 32
 
 module _ (s : State) (h : Sound s) (done : ℕ → Bool) (only : (p : ℕ) → done p ≡ true → (p < 32) × (waits s p ≡ true)) where
   -- a participant's three clauses: the profile in force, the one that waits, and that it waits only where one is in force
@@ -144,34 +145,31 @@ module _ (s : State) (h : Sound s) (done : ℕ → Bool) (only : (p : ℕ) → d
     held = h .held;
   }
 
-module _ (s : State) (g : Good s) (n : ℕ) (few : n ≤ 32) where
-  turned-fits : Fits (onEach (waits s) changeTakesEffect n s)
-  turned-fits =
-      each-keeps (waits s) changeTakesEffect s Fits n
+module _ (s : State) where
+  -- the profiles changed: the book is good, no other table changes, and no participant's bonds move
+  profiles-changed-fits : Fits s → Fits (profilesChanged s)
+  unfolding profilesChanged
+  profiles-changed-fits =
+      each-keeps (waits s) changeTakesEffect s Fits 32
       (λ t p l w fit.
-      stored-fits profileTables (inForce (λ f. t f p)) t p fit (omega (arith, fit .fits waitingModes p (omega arith), fit .fits waitingLists p (omega arith), fit .fits waitingPartials p (omega arith))))
-      (g .fits)
+      stored-fits participantTables (inForce (λ f. t f p)) t p fit (omega (arith, fit .fits waitingModes p (omega arith), fit .fits waitingLists p (omega arith), fit .fits waitingPartials p (omega arith))))
 
-  -- after each turn the book is good
-  pub profiles-turned-good : Good (onEach (waits s) changeTakesEffect n s)
-  profiles-turned-good =
-      let done = passed (waits s) n in
-      let only : (p : ℕ) → done p ≡ true → (p < 32) × (waits s p ≡ true) = λ p e. let t = split (ltb p n ∷ waits s p ∷ []) e in (omega (arith, ltb-true p n (t .0)), t .1) in
-      record { facts = rw (profiles-turned s n) (changed-sound s (g .facts) done only); fits = turned-fits }
+  profiles-changed-good : Good s → Good (profilesChanged s)
+  profiles-changed-good g =
+      let done = passed (waits s) 32 in
+      let only : (p : ℕ) → done p ≡ true → (p < 32) × (waits s p ≡ true) = λ p e. let t = split (ltb p 32 ∷ waits s p ∷ []) e in (ltb-true p 32 (t .0), t .1) in
+      record { facts = rw (profiles-turned s) (changed-sound s (g .facts) done only); fits = profiles-changed-fits (g .fits) }
 
--- the profiles changed: the book is good, no other table changes, and no participant's bonds move
-pub profiles-changed-good : (s : State) → Good s → Good (profilesChanged s)
-unfolding profilesChanged
-profiles-changed-good s g = profiles-turned-good s g 32 (omega arith)
+-- the next open day
+module _ (s : State) where
+  pub next-day-good : Good s → openDay (nextOpenDay (s today 0)) ≡ true → Good (onNextDay s)
+  unfolding onNextDay
+  next-day-good g o = let day = nextOpenDay (s today 0) in profiles-changed-good (put s today 0 day) (new-day-good s g day o)
 
-pub profiles-changed-beside : (s : State) (f i : ℕ) → among profileTables f ≡ false → profilesChanged s f i ≡ s f i
-unfolding profilesChanged
-profiles-changed-beside s f i m = tables-beside (among profileTables) inForce (waits s) changeTakesEffect (stored-row inForce profileTables) s 32 f i m
+  pub next-day-beside : (f i : ℕ) → among participantTables f ≡ false → onNextDay s f i ≡ put s today 0 (nextOpenDay (s today 0)) f i
+  unfolding onNextDay
+  next-day-beside f i m = rw (profiles-turned (put s today 0 (nextOpenDay (s today 0))), m)
 
-pub profiles-changed-holding : (s : State) (p i : ℕ) → holding (profilesChanged s) p i ≡ holding s p i
-unfolding profilesChanged holding
-profiles-changed-holding s p i = rw (profiles-turned s 32)
-
--- while profiles change, those to come are as they were, and so is whether one waits
-pub profile-ahead : (s : State) (n f p : ℕ) → n ≤ p → onEach (waits s) changeTakesEffect n s f p ≡ s f p
-profile-ahead s n f p l = row-ahead (among profileTables) inForce (waits s) changeTakesEffect (stored-row inForce profileTables) s n f p l
+  pub next-day-holding : (p i : ℕ) → holding (onNextDay s) p i ≡ holding s p i
+  unfolding onNextDay holding
+  next-day-holding p i = rw (profiles-turned (put s today 0 (nextOpenDay (s today 0))))

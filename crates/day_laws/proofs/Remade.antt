@@ -12,7 +12,8 @@ use lib.Dec.{eqb, ltb}
 use borrow.Author.Tests.{eqb-true, eq-eqb, ne-eqb, lt-ltb, le-ltb}
 use Rattle.laws.proofs.Cases.{either}
 use Rattle.book.specs.Layout.{rowsOf, widthOf, tableCount}
-use Rattle.book.specs.State.{State, Fits, put}
+use Rattle.book.specs.State.{State, put}
+use Rattle.book.specs.Fits.{Fits}
 use Rattle.book.proofs.Images.{put-fits}
 use Rattle.rules.specs.DayChange.{onEach}
 use Rattle.day_laws.proofs.Each.{place-ahead, place-passed}
@@ -45,23 +46,26 @@ abbrev pub among : List ℕ → ℕ → Bool
 among [] g = false
 among (f ∷ fs) g = eqb g f || among fs g
 
--- a row stored into each of some tables, the last of them first
+-- numbers stored into a row of some tables, one after the other
 abbrev pub stored : State → List ℕ → (ℕ → ℕ) → ℕ → State
 stored t [] new i = t
-stored t (f ∷ fs) new i = put (stored t fs new i) f i (new f)
+stored t (f ∷ fs) new i = stored (put t f i (new f)) fs new i
+
+stored-at : (fs : List ℕ) (new : ℕ → ℕ) (t : State) (i g j : ℕ) → stored t fs new i g j ≡ cond (among fs g) (cond (eqb j i) (new g) (t g j)) (t g j)
+stored-at [] new t i g j = refl
+stored-at (f ∷ fs) new t i g j =
+    stored-at fs new (put t f i (new f)) i g j
+    ∙ ⊎-elim (λ (e : eqb g f ≡ true). rw (e, eqb-true g f e) (either-way (new f) (t f j) (among fs f) (eqb j i))) (λ (e : eqb g f ≡ false). rw e) (either (eqb g f))
+  where
+    either-way : (x y : ℕ) (a b : Bool) → cond a (cond b x (cond b x y)) (cond b x y) ≡ cond b x y
+    either-way x y true true = refl
+    either-way x y true false = refl
+    either-way x y false b = refl
 
 pub stored-row : (new : (ℕ → ℕ) → ℕ → ℕ) (fs : List ℕ) (t : State) (i g j : ℕ) → stored t fs (new (λ h. t h i)) i g j ≡ remade (among fs) new (λ k. eqb k i) t g j
-stored-row new [] t i g j = refl
-stored-row new (f ∷ fs) t i g j =
-    let rest = stored-row new fs t i g j in
-    ⊎-elim
-    (λ (e : eqb g f ≡ true).
-    ⊎-elim
-    (λ (d : eqb j i ≡ true). rw (e, d, eqb-true g f e, eqb-true j i d))
-    (λ (d : eqb j i ≡ false). rw (e, d) (rest ∙ remade-not (among fs) new (λ k. eqb k i) t g j d))
-    (either (eqb j i)))
-    (λ (e : eqb g f ≡ false). rw e rest)
-    (either (eqb g f))
+stored-row new fs t i g j =
+    stored-at fs (new (λ h. t h i)) t i g j
+    ∙ ⊎-elim (λ (d : eqb j i ≡ true). rw (d, eqb-true j i d)) (λ (d : eqb j i ≡ false). rw d) (either (eqb j i))
 
 -- numbers that fit the tables that they are stored into
 abbrev pub Storable : List ℕ → (ℕ → ℕ) → ℕ → Type 0
@@ -70,7 +74,7 @@ Storable (f ∷ fs) new i = ((f < tableCount) × (i < rowsOf f) × (new f < 256 
 
 pub stored-fits : (fs : List ℕ) (new : ℕ → ℕ) (t : State) (i : ℕ) → Fits t → Storable fs new i → Fits (stored t fs new i)
 stored-fits [] new t i fit h = fit
-stored-fits (f ∷ fs) new t i fit h = put-fits (stored t fs new i) f i (new f) (stored-fits fs new t i fit (h .1)) (h .0 .0) (h .0 .1) (h .0 .2)
+stored-fits (f ∷ fs) new t i fit h = stored-fits fs new (put t f i (new f)) i (put-fits t f i (new f) fit (h .0 .0) (h .0 .1) (h .0 .2)) (h .1)
 
 -- the numbers whose turn has been, among those that pass
 abbrev pub passed : (ℕ → Bool) → ℕ → ℕ → Bool
@@ -83,13 +87,13 @@ module _ (tables : ℕ → Bool) (new : (ℕ → ℕ) → ℕ → ℕ) (test : �
   only-own f i t j d = own t j f i ∙ remade-not tables new (λ k. eqb k j) t f i (ne-eqb i j d)
 
   -- the rows to come are as they were
-  pub row-ahead : (n f i : ℕ) → n ≤ i → onEach test step n s f i ≡ s f i
-  row-ahead n f i l = place-ahead test step s f i (only-own f i) n l
+  row-ahead : (n f i : ℕ) → n ≤ i → onEach test step n s f i ≡ s f i
+  row-ahead n f i l = place-ahead test step s (λ t. t f i) i (only-own f i) n l
 
   row-passed : (n f i : ℕ) → i < n → onEach test step n s f i ≡ remade tables new test s f i
   row-passed n f i l =
       let before : (g : ℕ) → onEach test step i s g i ≡ s g i = λ g. row-ahead i g i (le-refl i) in
-      place-passed test step s f i (only-own f i) n l
+      place-passed test step s (λ t. t f i) i (only-own f i) n l
       ∙ ⊎-elim
       (λ (e : test i ≡ true). rw (own (onEach test step i s) i f i, eq-eqb i i refl, fun-ext before, before f, e))
       (λ (e : test i ≡ false). rw e (sym (remade-not tables new (λ k. false) s f i refl)))
@@ -104,7 +108,3 @@ module _ (tables : ℕ → Bool) (new : (ℕ → ℕ) → ℕ → ℕ) (test : �
 
   pub turns-remade : (n : ℕ) → onEach test step n s ≡ remade tables new (passed test n) s
   turns-remade n = fun-ext (λ f. fun-ext (λ i. row-turned n f i))
-
-  -- every other table is as it was
-  pub tables-beside : (n f i : ℕ) → tables f ≡ false → onEach test step n s f i ≡ s f i
-  tables-beside n f i m = rw m at (row-turned n f i)

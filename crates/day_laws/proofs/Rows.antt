@@ -2,37 +2,32 @@
 -- Assumes nothing.
 use mathlib.Core.Path.{_≡_, _∙_}
 use mathlib.Core.Bool.{Bool, true, false}
-use mathlib.Core.List.{List, [], _∷_}
 use mathlib.Core.Logic.{⊎-elim}
-use Prim.Native.Nat.{ℕ, _≤_, _<_}
+use Prim.Native.Nat.{ℕ, _<_}
 use native.Mathlib.Omega.{arith}
-use lib.Dec.{eqb, ltb}
-use borrow.Author.Tests.{eqb-false, ne-eqb, lt-ltb, le-ltb, not-true}
+use lib.Dec.{eqb}
+use borrow.Author.Tests.{eqb-false, ne-eqb, lt-ltb, not-true}
 use Rattle.laws.specs.Search.{all}
 use Rattle.laws.proofs.Cases.{either}
-use Rattle.book.specs.Layout.{numbers, requestKinds, sides, givers, takers, basketsOrExposures, amounts, settlements, closings, references, settledAmounts, partners, pairPartials, cancels, ends}
+use Rattle.book.specs.Layout.{numbers, partners, requestTables}
 use Rattle.book.specs.State.{State}
-use Rattle.rules.specs.DayChange.{onEach, isDropped, blanked, rowsDropped}
+use Rattle.rules.specs.DayChange.{rowDropped, rowsDropped, isDone, isClosedFop, isClosedReturn}
 use Rattle.rules.specs.Requests.{isUsed, isPaired, partnerOf}
 use Rattle.rules.specs.Stock.{holding}
 use Rattle.rules.specs.ByRow.{soundRow, differs, distinctNumber}
-use Rattle.facts.proofs.Facts.{Sound, all-of, below}
-use Rattle.facts.proofs.Keeps.{Good}
+use Rattle.facts.proofs.Truth.{all-of, below}
+use Rattle.facts.specs.Good.{Sound, Good}
 use Rattle.facts.proofs.Rows.{Pair, unused-blank, used-paired}
-use Rattle.day_laws.proofs.Remade.{remade, cleared-fits, among, stored-row, passed, row-ahead, turns-remade, tables-beside}
-
--- the tables of a request, the last first
-abbrev pub requestTables : List ℕ
-requestTables =
-    ends ∷ cancels ∷ pairPartials ∷ partners ∷ settledAmounts ∷ references ∷ closings ∷ settlements ∷ amounts ∷ basketsOrExposures ∷ takers ∷ givers ∷ sides ∷ requestKinds ∷ numbers ∷ []
+use Rattle.day_laws.proofs.Remade.{remade, cleared-fits, among, stored-row, passed, turns-remade}
 
 -- the state without the rows that are done
 abbrev pub without : State → (ℕ → Bool) → State
 without s done = remade (among requestTables) (λ row f. 0) done s
 
--- n turns: the rows passed are gone
-pub rows-turned : (s : State) (day n : ℕ) → onEach (isDropped s day) blanked n s ≡ without s (passed (isDropped s day) n)
-rows-turned s day n = turns-remade (among requestTables) (λ row f. 0) (isDropped s day) blanked (stored-row (λ row f. 0) requestTables) s n
+-- rows dropped: those that pass the test are gone
+rows-turned : (test : State → ℕ → Bool) (s : State) → rowsDropped test s ≡ without s (passed (test s) 256)
+unfolding rowsDropped
+rows-turned test s = turns-remade (among requestTables) (λ row f. 0) (test s) rowDropped (stored-row (λ row f. 0) requestTables) s 256
 
 -- a row that is paired is used, and so is its partner
 module _ (s : State) (h : Sound s) (i : ℕ) (l : i < 256) where
@@ -49,13 +44,28 @@ module _ (s : State) (h : Sound s) (i : ℕ) (l : i < 256) where
 pub partner-paired : (s : State) (h : Sound s) (i : ℕ) → i < 256 → isPaired s i ≡ true → isPaired s (partnerOf s i) ≡ true
 partner-paired s h i l p = rw (ne-eqb (s partners (partnerOf s i)) 0 (λ z. omega (arith, pair-of s h i l p .named)))
 
--- both rows of a pair are dropped, or neither
-pub dropped-together : (s : State) (h : Sound s) (day i : ℕ) → i < 256 → isPaired s i ≡ true → isDropped s day (partnerOf s i) ≡ isDropped s day i
-dropped-together s h day i l p =
-    let q = pair-of s h i l p in
-    let j = partnerOf s i in
-    let m = partner-paired s h i l p in
-    rw (paired-used s h i l p, paired-used s h j (q .partner-below) m, m, p, q .amount, q .settled, q .end, q .kind, q .closing, q .object)
+-- a test tells the same of both rows of a pair
+abbrev pub Together : State → (ℕ → Bool) → Type 0
+Together s test = (i : ℕ) → i < 256 → isPaired s i ≡ true → test (partnerOf s i) ≡ test i
+
+-- so do the tests of the three passes
+module _ (s : State) (h : Sound s) where
+  pub done-together : Together s (isDone s)
+  done-together i l p =
+      let q = pair-of s h i l p in
+      let m = partner-paired s h i l p in
+      rw (paired-used s h i l p, paired-used s h (partnerOf s i) (q .partner-below) m, m, p, q .amount, q .settled, q .end)
+
+  pub fop-together : Together s (isClosedFop s)
+  fop-together i l p =
+      let q = pair-of s h i l p in
+      let m = partner-paired s h i l p in
+      rw (paired-used s h i l p, paired-used s h (partnerOf s i) (q .partner-below) m, m, p, q .kind, q .closing)
+
+  pub return-together : Together s (isClosedReturn s)
+  return-together i l p =
+      let q = pair-of s h i l p in
+      rw (paired-used s h i l p, paired-used s h (partnerOf s i) (q .partner-below) (partner-paired s h i l p), q .kind, q .object)
 
 module _ (s : State) (h : Sound s) (done : ℕ → Bool) where
   -- a row that is gone
@@ -95,7 +105,7 @@ module _ (s : State) (h : Sound s) (done : ℕ → Bool) where
       other : (j : ℕ) → done i ≡ false → eqb (s numbers i) 0 ≡ false → differs s i j ≡ true → differs (without s done) i j ≡ true
       other j e z d = ⊎-elim (λ (k : done j ≡ true). rw (e, k, z)) (λ (k : done j ≡ false). rw (e, k) d) (either (done j))
 
-  pub left-sound : ((i : ℕ) → i < 256 → isPaired s i ≡ true → done (partnerOf s i) ≡ done i) → Sound (without s done)
+  pub left-sound : Together s done → Sound (without s done)
   unfolding all holding
   left-sound pair = record {
     head = h .head;
@@ -111,29 +121,18 @@ module _ (s : State) (h : Sound s) (done : ℕ → Bool) where
     held = h .held;
   }
 
-module _ (s : State) (g : Good s) (day : ℕ) where
-  -- rows dropped: what is left is sound
-  pub rows-dropped-good : Good (rowsDropped s day)
-  unfolding rowsDropped
-  rows-dropped-good =
-      let done = passed (isDropped s day) 256 in
-      let pair : (i : ℕ) → i < 256 → isPaired s i ≡ true → done (partnerOf s i) ≡ done i =
-      λ i l p. rw (lt-ltb (partnerOf s i) 256 (pair-of s (g .facts) i l p .partner-below), lt-ltb i 256 l) (dropped-together s (g .facts) day i l p) in
-      rw (rows-turned s day 256) (record { facts = left-sound s (g .facts) done pair; fits = cleared-fits (among requestTables) done s (g .fits) })
+module _ (test : State → ℕ → Bool) (s : State) where
+  -- pairs dropped together: what is left is sound
+  pub rows-dropped-good : Good s → Together s (test s) → Good (rowsDropped test s)
+  rows-dropped-good g together =
+      let done = passed (test s) 256 in
+      let pair : Together s done = λ i l p. rw (lt-ltb (partnerOf s i) 256 (pair-of s (g .facts) i l p .partner-below), lt-ltb i 256 l) (together i l p) in
+      rw (rows-turned test s) (record { facts = left-sound s (g .facts) done pair; fits = cleared-fits (among requestTables) done s (g .fits) })
 
-module _ (s : State) (day : ℕ) where
   -- no other table changes, and no participant's bonds move
-  pub rows-dropped-beside : (f i : ℕ) → among requestTables f ≡ false → rowsDropped s day f i ≡ s f i
-  unfolding rowsDropped
-  rows-dropped-beside f i m = tables-beside (among requestTables) (λ row f. 0) (isDropped s day) blanked (stored-row (λ row f. 0) requestTables) s 256 f i m
+  pub rows-dropped-beside : (f i : ℕ) → among requestTables f ≡ false → rowsDropped test s f i ≡ s f i
+  rows-dropped-beside f i m = rw (rows-turned test s, m)
 
-  pub rows-dropped-holding : (p i : ℕ) → holding (rowsDropped s day) p i ≡ holding s p i
-  unfolding rowsDropped holding
-  rows-dropped-holding p i = rw (rows-turned s day 256)
-
-  -- while rows are dropped, the rows to come are as they were, and are told by the same test
-  pub request-ahead : (n f i : ℕ) → n ≤ i → onEach (isDropped s day) blanked n s f i ≡ s f i
-  request-ahead n f i l = row-ahead (among requestTables) (λ row f. 0) (isDropped s day) blanked (stored-row (λ row f. 0) requestTables) s n f i l
-
-  pub dropped-ahead : (n i : ℕ) → n ≤ i → isDropped (onEach (isDropped s day) blanked n s) day i ≡ isDropped s day i
-  dropped-ahead n i l = let no : ltb i n ≡ false = le-ltb i n l in rw (rows-turned s day n, no)
+  pub rows-dropped-holding : (p i : ℕ) → holding (rowsDropped test s) p i ≡ holding s p i
+  unfolding holding
+  rows-dropped-holding p i = rw (rows-turned test s)

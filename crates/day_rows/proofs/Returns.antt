@@ -1,66 +1,74 @@
--- What each return of the tests of a request row shows.
+-- What each return of the tests of a request row and of an exposure shows.
 -- Assumes nothing.
-use mathlib.Core.Path.{_≡_, refl, sym, _∙_}
-use mathlib.Core.Bool.{Bool, true, false, _||_}
+use mathlib.Core.Path.{_≡_, sym, _∙_}
+use mathlib.Core.Bool.{Bool, true, false, not, and-false, and-true}
 use Prim.Native.Nat.{ℕ, _≤_, _<_}
-use lib.Dec.{leb}
-use borrow.Author.Tests.{eq-eqb, ne-eqb, le-leb, lt-leb}
-use Rattle.book.specs.Layout.{today, numbers, requestKinds, basketsOrExposures, amounts, settlements, closings, settledAmounts, partners, ends, exposureClosings}
+use lib.Dec.{eqb, leb}
+use borrow.Author.Tests.{eq-eqb, ne-eqb, le-leb, lt-leb, not-true, not-false}
+use Rattle.book.specs.Layout.{today, numbers, requestKinds, basketsOrExposures, amounts, settlements, closings, settledAmounts, partners, ends, inUse, exposureClosings}
 use Rattle.book.specs.State.{State}
-use Rattle.rules.specs.DayChange.{isReached, isDone, isClosed, isDropped}
-
--- a test that stands alone
-pub or-none : (b : Bool) → (b || false) ≡ b
-or-none true = refl
-or-none false = refl
+use Rattle.rules.specs.DayChange.{isReached, isDone, isClosedFop, isExposureClosed, isClosedReturn}
 
 -- a closing date
-module _ (day closing : ℕ) where
-  pub never-reached : closing ≡ 0 → false ≡ isReached day closing
+module _ (s : State) (closing : ℕ) where
+  pub never-reached : closing ≡ 0 → false ≡ isReached s closing
   never-reached z = rw (eq-eqb closing 0 z)
 
-  pub by-day : (closing ≡ 0 → ⊥) → leb closing day ≡ isReached day closing
-  by-day n = rw (ne-eqb closing 0 n)
+  pub by-day : {t : ℕ} → (closing ≡ 0 → ⊥) → t ≡ s today 0 → leb closing t ≡ isReached s closing
+  by-day n tq = rw (ne-eqb closing 0 n, ← tq)
+
+-- an exposure whose closing date is reached
+module _ (s : State) (e : ℕ) {u : ℕ} (uq : u ≡ s inUse e) where
+  pub exposure-unused : (u ≡ 1 → ⊥) → false ≡ isExposureClosed s e
+  exposure-unused n = rw (← uq, ne-eqb u 1 n)
+
+  pub by-reached : {c : ℕ} {b : Bool} → u ≡ 1 → c ≡ s exposureClosings e → b ≡ isReached s c → b ≡ isExposureClosed s e
+  by-reached z cq bq = rw (← uq, z, ← cq) bq
 
 -- a row that is done
-module _ (s : State) (i : ℕ) {a d : ℕ} (aq : a ≡ s amounts i) (dq : d ≡ s settledAmounts i) where
-  pub done-whole : a ≤ d → true ≡ isDone s i
-  done-whole h = rw (← aq, ← dq, le-leb a d h)
+module _ (s : State) (i : ℕ) {n : ℕ} (nq : n ≡ s numbers i) where
+  pub done-unused : n ≡ 0 → false ≡ isDone s i
+  done-unused z = rw (← nq, z)
 
-  module _ (part : d < a) {x : ℕ} (xq : x ≡ s ends i) where
-    pub done-ended : x ≡ 1 → true ≡ isDone s i
-    done-ended e = rw (← aq, ← dq, lt-leb a d part, ← xq, eq-eqb x 1 e)
+  module _ (used : n ≡ 0 → ⊥) {a d : ℕ} (aq : a ≡ s amounts i) (dq : d ≡ s settledAmounts i) where
+    pub done-whole : a ≤ d → true ≡ isDone s i
+    done-whole h = rw (← nq, ne-eqb n 0 used, ← aq, ← dq, le-leb a d h)
 
-    module _ (going : x ≡ 1 → ⊥) {p : ℕ} (pq : p ≡ s partners i) where
-      pub done-not : (p ≡ 0 → ⊥) → false ≡ isDone s i
-      done-not n = rw (← aq, ← dq, lt-leb a d part, ← xq, ne-eqb x 1 going, ← pq, ne-eqb p 0 n)
+    module _ (part : d < a) {x : ℕ} (xq : x ≡ s ends i) where
+      pub done-ended : x ≡ 1 → true ≡ isDone s i
+      done-ended e = rw (← nq, ne-eqb n 0 used, ← aq, ← dq, lt-leb a d part, ← xq, eq-eqb x 1 e)
 
-      pub by-settlement : {y t : ℕ} → p ≡ 0 → y ≡ s settlements i → t ≡ s today 0 → leb y t ≡ isDone s i
-      by-settlement z yq tq = rw (← aq, ← dq, lt-leb a d part, ← xq, ne-eqb x 1 going, ← pq, eq-eqb p 0 z, ← yq, ← tq)
+      module _ (going : x ≡ 1 → ⊥) {p : ℕ} (pq : p ≡ s partners i) where
+        pub done-not : (p ≡ 0 → ⊥) → false ≡ isDone s i
+        done-not m = rw (← nq, ne-eqb n 0 used, ← aq, ← dq, lt-leb a d part, ← xq, ne-eqb x 1 going, ← pq, ne-eqb p 0 m)
 
--- a row whose closing date is reached
-module _ (s : State) (day i : ℕ) {k : ℕ} (kq : k ≡ s requestKinds i) where
-  pub by-exposure : {o c : ℕ} {b : Bool} → k ≡ 7 → o ≡ s basketsOrExposures i → c ≡ s exposureClosings o → b ≡ isReached day c → b ≡ isClosed s day i
-  by-exposure e oq cq bq = rw (← kq, e, ← oq, ← cq) bq
+        pub by-settlement : {y t : ℕ} → p ≡ 0 → y ≡ s settlements i → t ≡ s today 0 → leb y t ≡ isDone s i
+        by-settlement z yq tq = rw (← nq, ne-eqb n 0 used, ← aq, ← dq, lt-leb a d part, ← xq, ne-eqb x 1 going, ← pq, eq-eqb p 0 z, ← yq, ← tq)
 
-  pub neither-kind : (k ≡ 7 → ⊥) → (k ≡ 6 → ⊥) → false ≡ isClosed s day i
-  neither-kind m n = rw (← kq, ne-eqb k 6 n, ne-eqb k 7 m)
+-- one of a FOP pair whose closing date is reached
+module _ (s : State) (i : ℕ) {c : ℕ} {b : Bool} (cq : c ≡ s closings i) (bq : b ≡ isReached s c) where
+  pub fop-open : not b ≡ true → false ≡ isClosedFop s i
+  fop-open e = rw (← cq, sym bq ∙ not-true b e, and-false, and-false, and-false)
 
-  module _ (e : k ≡ 6) {p : ℕ} (pq : p ≡ s partners i) where
-    pub not-paired : p ≡ 0 → false ≡ isClosed s day i
-    not-paired z = rw (← kq, e, ← pq, z)
+  module _ (reached : not b ≡ false) {k : ℕ} (kq : k ≡ s requestKinds i) where
+    pub no-fop : (k ≡ 6 → ⊥) → false ≡ isClosedFop s i
+    no-fop m = rw (← kq, ne-eqb k 6 m, and-false)
 
-    pub by-closing : {c : ℕ} {b : Bool} → (p ≡ 0 → ⊥) → c ≡ s closings i → b ≡ isReached day c → b ≡ isClosed s day i
-    by-closing {c} {b} n cq bq = rw (← kq, e, ← pq, ne-eqb p 0 n, ← cq) (bq ∙ sym (or-none (isReached day c)))
+    module _ (e : k ≡ 6) {p : ℕ} (pq : p ≡ s partners i) where
+      pub no-pair : p ≡ 0 → false ≡ isClosedFop s i
+      no-pair z = rw (← kq, e, ← pq, z, and-false)
 
--- a row that is dropped
-module _ (s : State) (day i : ℕ) {n : ℕ} (nq : n ≡ s numbers i) where
-  pub drop-unused : n ≡ 0 → false ≡ isDropped s day i
-  drop-unused z = rw (← nq, z)
+      pub by-number : {n : ℕ} → (p ≡ 0 → ⊥) → n ≡ s numbers i → not (eqb n 0) ≡ isClosedFop s i
+      by-number m nq = rw (← nq, ← kq, e, ← pq, ne-eqb p 0 m, ← cq, sym bq ∙ not-false b reached, and-true)
 
-  module _ (used : n ≡ 0 → ⊥) {b : Bool} (bq : b ≡ isDone s i) where
-    pub drop-done : b ≡ true → true ≡ isDropped s day i
-    drop-done e = rw (← nq, ne-eqb n 0 used, sym bq ∙ e)
+-- a return whose exposure is closed
+module _ (s : State) (i : ℕ) {k : ℕ} (kq : k ≡ s requestKinds i) where
+  pub no-return : (k ≡ 7 → ⊥) → false ≡ isClosedReturn s i
+  no-return m = rw (← kq, ne-eqb k 7 m, and-false)
 
-    pub by-closed : {c : Bool} → b ≡ false → c ≡ isClosed s day i → c ≡ isDropped s day i
-    by-closed e cq = rw (← nq, ne-eqb n 0 used, sym bq ∙ e) cq
+  module _ (e : k ≡ 7) {n : ℕ} (nq : n ≡ s numbers i) where
+    pub return-unused : n ≡ 0 → false ≡ isClosedReturn s i
+    return-unused z = rw (← nq, z)
+
+    pub by-exposure : {o : ℕ} {b : Bool} → (n ≡ 0 → ⊥) → o ≡ s basketsOrExposures i → b ≡ isExposureClosed s o → b ≡ isClosedReturn s i
+    by-exposure used oq bq = rw (← nq, ne-eqb n 0 used, ← kq, e, ← oq) bq

@@ -11,14 +11,16 @@ use Rattle.laws.specs.Filled.{filled}
 use Rattle.laws.proofs.Cases.{either}
 use Rattle.book.specs.Layout.{numbers, requestKinds, basketsOrExposures}
 use Rattle.book.specs.State.{State, put}
-use Rattle.rules.specs.DayChange.{isDropped, blanked, onEach}
+use Rattle.rules.specs.DayChange.{rowDropped, onEach}
 use Rattle.rules.specs.Requests.{isUsed}
-use Rattle.facts.proofs.Facts.{Sound}
+use Rattle.facts.specs.Good.{Sound}
 use Rattle.facts.proofs.Rows.{Kind, fop, return, used-fields, unused-blank}
 use Rattle.row_tests.specs.Rows.{InRows}
 use Rattle.row_tests.proofs.InRows.{in-rows}
 use Rattle.day_laws.proofs.Each.{each-keeps}
-use Rattle.day_rows.specs.Parts.{cleared, ReturnNamed}
+use Rattle.day_rows.specs.Parts.{drops, cleared, ReturnNamed}
+use Rattle.day_rows.specs.declared.Pass.{Pass}
+use Rattle.day_rows.specs.declared.Pass.the-variants.{Done, ClosedFops, ClosedReturns}
 
 -- the tables of a request row have the same rows
 pub in-requests : (i : ℕ) → i < 256 → InRows 15 numbers i
@@ -35,17 +37,19 @@ unfolding cleared
 cleared-none s from i = refl
 
 -- a request row cleared in its fifteen tables
-pub cleared-row : (s : State) (i : ℕ) → cleared s 15 numbers i ≡ blanked s i
+pub cleared-row : (s : State) (i : ℕ) → cleared s 15 numbers i ≡ rowDropped s i
 unfolding cleared
 cleared-row s i = refl
 
--- the test of a row reads its own tables, today and the exposures' closings
-pub rows-apart : (day : ℕ) (s : State) (j i : ℕ) → j < i → isDropped (blanked s j) day i ≡ isDropped s day i
-rows-apart day s j i l = rw (ne-eqb i j (λ e. omega arith))
+-- the tests of a row read its own tables, today and the exposures
+pub rows-apart : (pass : Pass) (s : State) (j i : ℕ) → j < i → drops pass (rowDropped s j) i ≡ drops pass s i
+rows-apart Done s j i l = rw (ne-eqb i j (λ e. omega arith))
+rows-apart ClosedFops s j i l = rw (ne-eqb i j (λ e. omega arith))
+rows-apart ClosedReturns s j i l = rw (ne-eqb i j (λ e. omega arith))
 
 -- while the rows below i are dropped, a return at i names its exposure
-pub later-named : (test : ℕ → Bool) (s : State) (i : ℕ) → ReturnNamed s i → ReturnNamed (onEach test blanked i s) i
-later-named test s i r = each-keeps test blanked s (λ t. ReturnNamed t i) i (λ t j l p h. record { named = rw (ne-eqb i j (λ e. omega arith)) (h .named) }) r
+pub later-named : (test : ℕ → Bool) (s : State) (i : ℕ) → ReturnNamed s i → ReturnNamed (onEach test rowDropped i s) i
+later-named test s i r = each-keeps test rowDropped s (λ t. ReturnNamed t i) i (λ t j l p h. record { named = rw (ne-eqb i j (λ e. omega arith)) (h .named) }) r
 
 -- a return of a sound book names an exposure row
 module _ (s : State) (f : Sound s) (i : ℕ) (l : i < 256) where

@@ -1,30 +1,40 @@
 // The desk's program (document 01, "The program's lines"): reads standard input piece by piece and writes what the crate `lines`
-// makes of it. What a record's call leaves and what its line says are promises of that crate and of `line_text`.
-// Proved here: the program is safe and ends, stays within its buffers, and serves each piece whole, one batch after the other. What
-// is read and written no contract can say: that is tested, on stdin and stdout beside src/ and by tests/tests/lines.rs.
+// makes of it.
+// Proved here: what was held of a piece stands in front of what is read next, each piece is served once, with the book and the place that
+// the last one left, and its lines stand at the front of the text (`serve_some`); so the lines of all pieces and the last line are the
+// text of the whole input (`serve`, `finish`). No contract can say what `read` gives, or that a text is handed to `write` and written: that
+// is tested, on stdin and stdout beside src/ and by tests/tests/lines.rs.
 ghost use mathlib.Core.Path.{_≡_};
-ghost use Prim.Native.Nat.{_+_, _≤_, _<_};
+ghost use mathlib.Core.Bool.{false};
+ghost use Prim.Native.Nat.{_+_, _-_, _≤_, _<_};
 ghost use lib.ListN.{length, take, drop};
-ghost use Rattle.lines.specs.Lines.{servedAll};
+ghost use Rattle.line_text.specs.Buffer.{withText};
+ghost use Rattle.lines.specs.Program.{firstRecord, zeroBook};
+ghost use Rattle.lines.specs.Pieces.{Serves, Ran, isOpen, isOver, endText};
+use libc::STDERR_FILENO;
 use libc::STDIN_FILENO;
 use libc::STDOUT_FILENO;
 
 // More reads than a machine makes in years: a proved loop has to end, and nothing says that the input does.
 const READS: u64 = 281474976710655;
 
-// How far a piece of the input is served: the place of the last line, the bytes of the piece whose calls are made, and whether
-// every write succeeded.
-struct Progress {
-    place: u64,
-    taken: usize,
-    is_written: bool,
+// What a read gave: how many bytes, none at the input's end, or nothing where it failed.
+struct Got {
+    count: usize,
+    failed: bool,
 }
 
-// Between two pieces: the place of the last line, the bytes at the input's front that are no whole record, and whether to read on.
+// After a piece: how many reads are left, the place of the next line, how many bytes the piece has and how many of them are of records
+// served, the bytes of their lines, whether these are written, and what the read gave.
 struct Session {
+    reads: u64,
     place: u64,
-    held: usize,
-    is_open: bool,
+    end: usize,
+    taken: usize,
+    waiting: usize,
+    written: bool,
+    count: usize,
+    failed: bool,
 }
 
 // Writes the first bytes of a text; false where that fails.
@@ -34,118 +44,131 @@ fn write_text(text: &[u8], waiting: usize) -> bool
     io::write_all(STDOUT_FILENO, &text[..waiting])
 }
 
-// Writes the first bytes of a text where all before were written; false where that fails.
-fn write_behind(is_written: bool, text: &[u8], waiting: usize) -> bool
-    requires { ⌜ waiting ≤ length (now text) ⌝ }
-{
-    if !is_written {
-        return false;
-    }
-    write_text(text, waiting)
-}
-
-// Serves the whole records at the front of a piece, and writes the lines of each batch before the next is served.
-fn serve_piece(book: &mut [u8], piece: &[u8], text: &mut [u8], place: u64) -> Progress
-    requires { ⌜ (126 ≤ length (now text)) × (place + length (now piece) < 18446744073709551616) ⌝ }
-    ensures { λ r. ⌜ (r .taken ≤ length (now (piece .entry))) × (r .place ≤ place + r .taken) ⌝ }
-    ensures { λ r. ⌜ (now (book .exit) ≡ servedAll (now (book .entry)) (now (piece .entry)) place .book) × (r .taken ≡ servedAll (now (book .entry)) (now (piece .entry)) place .taken) × (r .place ≡ servedAll (now (book .entry)) (now (piece .entry)) place .place) ⌝ }
-{
-    let mut p = Progress {
-        place,
-        taken: 0,
-        is_written: true,
-    };
-    loop {
-        let at = p.taken;
-        let batch = lines::serve_batch(book, &piece[at..], text, p.place);
-        if batch.taken == 0 {
-            return p;
-        }
-        p = Progress {
-            place: batch.place,
-            taken: at + batch.taken,
-            is_written: write_behind(p.is_written, text, batch.waiting),
-        };
-    }
-}
-
-// Reads once, behind the bytes held; answers how many bytes are then held: no more than before at the end of the input, and
-// where the read fails.
-fn read_more(input: &mut [u8], held: usize) -> usize
+// Reads once, behind the bytes held.
+fn read_more(input: &mut [u8], held: usize) -> Got
     requires { ⌜ held ≤ length (now input) ⌝ }
-    ensures { λ r. ⌜ (held ≤ r) × (r ≤ length (now (input .entry))) ⌝ }
+    ensures { λ r. ⌜ (take held (now (input .exit)) ≡ take held (now (input .entry))) × (held + r .count ≤ length (now (input .entry))) ⌝ }
 {
     let room = &mut input[held..];
     let got = libc::read(STDIN_FILENO, room);
-    held + io::count(got, room)
-}
-
-// Moves the bytes between two places to the front; answers how many they are.
-fn move_to_front(input: &mut [u8], from: usize, end: usize) -> usize
-    requires { ⌜ (from ≤ end) × (end ≤ length (now input)) ⌝ }
-    ensures { λ r. ⌜ (from + r ≡ end) × (take r (now (input .exit)) ≡ take r (drop from (now (input .entry)))) ⌝ }
-{
-    let count = end - from;
-    let mut i: usize = 0;
-    while i < count {
-        input[i] = input[from + i];
-        i += 1;
+    Got {
+        count: io::count(got, room),
+        failed: lines::is_failure(got),
     }
-    count
 }
 
-// Reads a piece and serves it. An unknown kind, the input's end or a write that fails closes the session.
+// Reads a piece behind what is left of the last one, serves it and writes its lines.
 fn serve_some(book: &mut [u8], input: &mut [u8], text: &mut [u8], s: Session) -> Session
-    requires { ⌜ (length (now input) ≤ 65536) × (126 ≤ length (now text)) × (s .held ≤ length (now input)) × (s .place + 65536 < 18446744073709551616) ⌝ }
-    ensures { λ r. ⌜ (r .held ≤ length (now (input .entry))) × (r .place ≤ s .place + 65536) ⌝ }
+    requires { ⌜ (length (now input) ≤ 512) × (64512 ≤ length (now text)) × (s .taken ≤ s .end) × (s .end ≤ length (now input)) × (0 < s .reads) × (s .place + 512 < 18446744073709551616) ⌝ }
+    ensures { λ r. ⌜ take (s .end - s .taken) (now (input .exit)) ≡ drop (s .taken) (take (s .end) (now (input .entry))) ⌝ }
+    ensures { λ r. ⌜ Serves (now (book .entry)) (now (text .entry)) (s .place) (take (r .end) (now (input .exit))) (now (book .exit)) (now (text .exit)) (r .place) (r .taken) (r .waiting) ⌝ }
+    ensures { λ r. ⌜ (0 ≡ firstRecord (drop (r .taken) (take (r .end) (now (input .exit))))) × (r .end ≡ (s .end - s .taken) + r .count) × (r .taken ≤ r .end) × (r .end ≤ length (now (input .entry))) × (r .place ≤ s .place + 512) × (r .reads + 1 ≡ s .reads) ⌝ }
 {
-    let held = s.held;
-    let end = read_more(input, held);
-    if end == held {
-        return Session {
-            place: s.place,
-            held,
-            is_open: false,
-        };
-    }
-    let p = serve_piece(book, &input[..end], text, s.place);
-    if !p.is_written {
-        return Session {
-            place: p.place,
-            held: 0,
-            is_open: false,
-        };
-    }
-    let rest = move_to_front(input, p.taken, end);
+    let reads = s.reads - 1;
+    let held = lines::move_to_front(input, s.taken, s.end);
+    let got = read_more(input, held);
+    let end = held + got.count;
+    let p = lines::serve(book, &input[..end], text, s.place);
+    let written = write_text(text, p.waiting);
     Session {
+        reads,
         place: p.place,
-        held: rest,
-        is_open: lines::is_awaited(&input[..rest]),
+        end,
+        taken: p.taken,
+        waiting: p.waiting,
+        written,
+        count: got.count,
+        failed: got.failed,
     }
 }
 
-// Serves the whole input. Where anything is then held, it begins with a cut or unknown record, whose line is the last.
-fn serve(book: &mut [u8], input: &mut [u8], text: &mut [u8])
-    requires { ⌜ (length (now input) ≤ 65536) × (126 ≤ length (now text)) ⌝ }
+// Is nothing to be read any more after a piece?
+fn is_over(input: &[u8], s: Session) -> bool
+    requires { ⌜ (s .taken ≤ s .end) × (s .end ≤ length (now input)) ⌝ }
+    ensures { λ r. ⌜ r ≡ isOver (s .failed) (s .count) (drop (s .taken) (take (s .end) (now (input .entry)))) ⌝ }
+{
+    let taken = s.taken;
+    let end = s.end;
+    lines::is_over(s.failed, s.count, &input[taken..end])
+}
+
+// Is the next piece to be read?
+fn is_open(input: &[u8], s: Session) -> bool
+    requires { ⌜ (s .taken ≤ s .end) × (s .end ≤ length (now input)) ⌝ }
+    ensures { λ r. ⌜ r ≡ isOpen (s .reads) (s .written) (s .failed) (isOver (s .failed) (s .count) (drop (s .taken) (take (s .end) (now (input .entry))))) ⌝ }
+{
+    if s.reads == 0 {
+        return false;
+    }
+    if !s.written {
+        return false;
+    }
+    if s.failed {
+        return false;
+    }
+    !is_over(input, s)
+}
+
+// Serves the whole input, but for the line of a cut or unknown record at its end.
+fn serve(book: &mut [u8], input: &mut [u8], text: &mut [u8]) -> Session
+    requires { ⌜ (now book ≡ zeroBook) × (length (now input) ≤ 512) × (64512 ≤ length (now text)) ⌝ }
+    ensures { λ r. ⌜ Ran (now (book .exit)) (drop (r .taken) (take (r .end) (now (input .exit)))) (r .place) (r .failed) (r .count) ⌝ }
+    ensures { λ r. ⌜ false ≡ isOpen (r .reads) (r .written) (r .failed) (isOver (r .failed) (r .count) (drop (r .taken) (take (r .end) (now (input .exit))))) ⌝ }
+    ensures { λ r. ⌜ (r .taken ≤ r .end) × (r .end ≤ length (now (input .entry))) ⌝ }
 {
     let mut s = Session {
-        place: 0,
-        held: 0,
-        is_open: true,
+        reads: READS,
+        place: 1,
+        end: 0,
+        taken: 0,
+        waiting: 0,
+        written: true,
+        count: 0,
+        failed: false,
     };
-    let mut reads = READS;
-    while reads > 0 && s.is_open {
+    loop {
         s = serve_some(book, input, text, s);
-        reads -= 1;
+        if !is_open(input, s) {
+            return s;
+        }
     }
-    let held = s.held;
-    let end = line_text::put_last(text, s.place + 1, &input[..held]);
-    write_text(text, end);
 }
 
+fn report_read() {
+    io::write_all(STDERR_FILENO, b"desk: standard input cannot be read\n");
+}
+
+fn report_write() {
+    io::write_all(STDERR_FILENO, b"desk: standard output cannot be written\n");
+}
+
+// Writes the line of a cut or unknown record at the input's end. There is no exit status in Rattle: a message on standard error stands for
+// a read or a write that failed.
+fn finish(input: &[u8], text: &mut [u8], s: Session)
+    requires { ⌜ (126 ≤ length (now text)) × (s .taken ≤ s .end) × (s .end ≤ length (now input)) ⌝ }
+    ensures { λ _. ⌜ now (text .exit) ≡ withText (now (text .entry)) 0 (endText (s .written) (isOver (s .failed) (s .count) (drop (s .taken) (take (s .end) (now (input .entry))))) (s .place) (drop (s .taken) (take (s .end) (now (input .entry))))) ⌝ }
+{
+    if !s.written {
+        report_write();
+        return;
+    }
+    if !is_over(input, s) {
+        report_read();
+        return;
+    }
+    let taken = s.taken;
+    let end = s.end;
+    let last = line_text::put_last(text, s.place, &input[taken..end]);
+    if !write_text(text, last) {
+        report_write();
+    }
+}
+
+// The lines of the 512 bytes that are read at once fit into the text, so that each piece is served whole.
 fn main() {
     let mut book = [0u8; 49152];
-    let mut input = io::large_buffer();
+    let mut input = [0u8; 512];
     let mut text = io::large_buffer();
-    serve(&mut book, &mut input, &mut text);
+    let s = serve(&mut book, &mut input, &mut text);
+    finish(&input, &mut text, s);
 }

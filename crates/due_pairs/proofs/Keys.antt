@@ -1,7 +1,7 @@
 -- Keys: the ways out of the test of one, one more of them, and that they fit.
 -- Assumes nothing.
 use mathlib.Core.Path.{_≡_, refl, sym, _∙_}
-use mathlib.Core.Bool.{Bool, true, false, not, _&&_, _||_}
+use mathlib.Core.Bool.{Bool, true, false, not, _||_}
 use mathlib.Core.List.{List, [], _∷_, _++_}
 use Prim.Native.Nat.{ℕ, _+_, _*_, _≤_, _<_}
 use native.Mathlib.Numerals.{add-one}
@@ -9,17 +9,17 @@ use native.Mathlib.Omega.{arith}
 use lib.Dec.{eqb, ltb}
 use lib.ListN.{length, getD, take, set, length-set}
 use lib.Seq.{take-suc, take-suc-set}
-use borrow.Author.Tests.{le-leb, lt-leb, lt-ltb, le-ltb, ltb-false, not-true, not-false}
-use Rattle.laws.proofs.Cases.{and-left, or-left}
+use borrow.Author.Tests.{le-leb, lt-leb, lt-ltb, le-ltb, ltb-false, eqb-false, not-true, not-false}
+use Rattle.laws.proofs.Cases.{and-right, or-left}
 use Rattle.calendar.specs.Target.{lastDay, openDay}
-use Rattle.book.specs.Layout.{requestKinds, settlements}
+use Rattle.book.specs.Layout.{numbers, requestKinds, settlements}
 use Rattle.book.specs.State.{State}
-use Rattle.facts.proofs.Keeps.{Good}
+use Rattle.facts.specs.Good.{Good}
 use Rattle.facts.proofs.Rows.{head-facts, used-fields}
 use Rattle.rules.specs.Requests.{isUsed}
-use Rattle.rules.specs.Settlement.{orderOf, isDue}
-use Rattle.due_pairs.specs.Due.{duePair, noKey, keysOf, Collected, lesserFrom, leastFrom}
-use Rattle.due_pairs.proofs.Returns.{due-by, due-used}
+use Rattle.rules.specs.Settlement.{isDue}
+use Rattle.due_pairs.specs.Due.{dueOf, orderOf, noKey, keysOf, Collected, lesserFrom, leastFrom}
+use Rattle.due_pairs.proofs.Returns.{due-used}
 
 -- the ways out of `lesser_from`
 module _ (bound least key : ℕ) where
@@ -54,30 +54,29 @@ open-le : (d : ℕ) → openDay d ≡ true → d ≤ lastDay
 unfolding openDay
 open-le d h = ltb-false lastDay d (or-left (ltb lastDay d) _ (not-true (ltb lastDay d || _) h))
 
-pub order-small : {s : State} (i : ℕ) → Good s → i < 256 → isUsed s i ≡ true → orderOf s i < 72057594037927935
-order-small {s} i g l u =
-    let f = used-fields s i (g .facts .row i l) u in
-    omega (arith, f .number-below, open-le (s settlements i) (f .settlement), head-facts s (g .facts .head) .next-high)
+pub number-small : (s : State) (i : ℕ) → Good s → i < 256 → isUsed s i ≡ true → (0 < s numbers i) × (s numbers i < 1000000000)
+number-small s i g l u =
+    let n = eqb-false (s numbers i) 0 (not-true (eqb (s numbers i) 0) u) in
+    (omega arith, omega (arith, used-fields s i (g .facts .row i l) u .number-below, head-facts s (g .facts .head) .next-high))
 
-module _ (s : State) (kind i : ℕ) where
-  due-pair : (last : ℕ) → isDue s kind last i ≡ true → duePair s i ≡ true
-  due-pair last h = and-left (duePair s i) (eqb (s requestKinds i) kind && ltb last (orderOf s i)) (sym (due-by s kind last i) ∙ h)
+order-small : (s : State) (i : ℕ) → Good s → i < 256 → isUsed s i ≡ true → orderOf s i < 72057594037927935
+order-small s i g l u = omega (arith, number-small s i g l u .1, open-le (s settlements i) (used-fields s i (g .facts .row i l) u .settlement))
 
-  pub due-small : Good s → i < 256 → {d : Bool} → d ≡ isDue s kind 0 i → not d ≡ false → {order : ℕ} → order ≡ orderOf s i → order < 72057594037927935
-  due-small g l {d} dq h oq = rw oq (order-small i g l (due-used s i (due-pair 0 (sym dq ∙ not-false d h))))
+pub due-small : (s : State) (kind i : ℕ) → Good s → i < 256 → dueOf s kind i ≡ true → orderOf s i < 72057594037927935
+due-small s kind i g l h = order-small s i g l (due-used s i (and-right (eqb (s requestKinds i) kind) (isDue s i) h))
 
 -- one row more, in the code's i + 1
-module _ {s : State} {kind i : ℕ} {keys : List ℕ} {n : ℕ} (c : Collected s kind i keys n) {d : Bool} (dq : d ≡ isDue s kind 0 i) where
+module _ {s : State} {kind i : ℕ} {keys : List ℕ} {n : ℕ} (c : Collected s kind i keys n) {d : Bool} (dq : d ≡ dueOf s kind i) where
   pub not-noted : not d ≡ true → Collected s kind (i + 1) keys n
   unfolding keysOf
   not-noted h =
-      let none : isDue s kind 0 i ≡ false = sym dq ∙ not-true d h in
+      let none : dueOf s kind i ≡ false = sym dq ∙ not-true d h in
       record { long = c .long; few = omega (arith, c .few); all = rw (add-one, none) (c .all) }
 
   pub noted : i < 256 → not d ≡ false → {order : ℕ} → order ≡ orderOf s i → Collected s kind (i + 1) (set keys n (order * 256 + i)) (n + 1)
   unfolding keysOf
   noted l h oq =
-      let due : isDue s kind 0 i ≡ true = sym dq ∙ not-false d h in
+      let due : dueOf s kind i ≡ true = sym dq ∙ not-false d h in
       let inside : n < length keys = omega (arith, c .few, c .long) in
       record {
         long = simp length-set (c .long);

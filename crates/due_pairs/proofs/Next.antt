@@ -1,141 +1,121 @@
--- The least of the keys of the rows that are due, from a bound on, is that of the pair that is due next.
+-- The least of the keys of the rows that are due, from a bound on, is that of the first row left of the list.
 -- Assumes nothing.
-use mathlib.Core.Path.{_≡_, refl, sym, ap, _∙_}
-use mathlib.Core.Bool.{Bool, true, false, not, _&&_, _||_, cond, and-false}
-use mathlib.Core.List.{List}
-use mathlib.Core.Logic.{⊎-elim}
+use mathlib.Core.Path.{_≡_, refl, _∙_}
+use mathlib.Core.Bool.{Bool, true, false, _&&_}
+use mathlib.Core.List.{List, [], _∷_}
+use mathlib.Core.Logic.{inl, inr, ⊎-elim}
 use Prim.Native.Nat.{ℕ, zero, suc, _+_, _*_, _/_, _%_, _≤_, _<_}
 use native.Mathlib.Decide.{ℕ-discrete}
 use native.Mathlib.Omega.{arith}
-use lib.Dec.{eqb, ltb}
+use lib.Dec.{leb, ltb}
 use lib.ListN.{take}
-use borrow.Author.Tests.{eq-eqb, ne-eqb, lt-ltb, ltb-true, ltb-false}
-use Rattle.laws.specs.Search.{leastBy}
-use Rattle.laws.proofs.Cases.{either, and-left}
-use Rattle.book.specs.Layout.{requestKinds}
+use borrow.Author.Tests.{leb-true, ltb-false, ltb-true}
+use Rattle.laws.proofs.Cases.{either, and-left, and-right}
+use Rattle.laws.proofs.Lists.{In, Sorted}
 use Rattle.book.specs.State.{State}
-use Rattle.facts.proofs.Keeps.{Good}
-use Rattle.facts.proofs.Searches.{found-by}
-use Rattle.rules.specs.Settlement.{orderOf, isDue, nextDue}
-use Rattle.due_pairs.specs.Due.{duePair, keyOf, noKey, keysOf, Collected, lesserFrom, leastFrom}
-use Rattle.due_pairs.proofs.Keys.{too-low, is-lesser, not-lesser, least-one, due-small}
-use Rattle.due_pairs.proofs.Returns.{due-by}
+use Rattle.facts.specs.Good.{Good}
+use Rattle.due_pairs.specs.Due.{dueOf, orderOf, keyOf, noKey, keysOf, Collected, lesserFrom, leastFrom}
+use Rattle.due_pairs.proofs.Keys.{is-lesser, not-lesser, least-one, due-small}
 
--- for any test and order: the bound is that of a place in the order, and the least key from it on that of the first row after the place
-module _ (t u : ℕ → Bool) (order : ℕ → ℕ) (last : ℕ) (agree : (i : ℕ) → u i ≡ (t i && ltb last (order i))) (small : (i : ℕ) → i < 256 → t i ≡ true → order i < 72057594037927935) where
-  abbrev bound : ℕ
-  bound = (last + 1) * 256
-
-  abbrev first : ℕ → ℕ
-  first n = leastBy u order 256 n
-
-  -- the key of a row, where 256 stands for none
-  abbrev keyAt : ℕ → ℕ
-  keyAt i = cond (eqb i 256) noKey (keyOf (order i) i)
-
-  -- a row that passes beside the first of those before it
-  beside : (n b : ℕ) → n < 256 → t n ≡ true → ((b ≡ 256 → ⊥) → b < n) → lesserFrom bound (keyAt b) (keyOf (order n) n) ≡ keyAt (cond (ltb last (order n) && (eqb b 256 || ltb (order n) (order b))) n b)
-  beside n b l p f =
-      let key = keyOf (order n) n in
-      let row = ne-eqb n 256 (λ z. omega arith) in
-      let low = small n l p in
+-- the lesser of two from a bound on
+module _ (bound least key : ℕ) where
+  lesser-holds : (P : ℕ → Type 0) → P least → (bound ≤ key → key < least → P key) → P (lesserFrom bound least key)
+  unfolding lesserFrom
+  lesser-holds P p q =
       ⊎-elim
-      (λ (h : ltb last (order n) ≡ true).
-      let after = ltb-true last (order n) h in
-      elim (ℕ-discrete b 256) [
-        | yes z ↦ rw (h, eq-eqb b 256 z, row) (sym (is-lesser bound noKey key (omega arith) (omega arith)))
-        | no z ↦
-            let before = f z in
-            let none = ne-eqb b 256 z in
-            ⊎-elim
-            (λ (e : ltb (order n) (order b) ≡ true).
-            let less = ltb-true (order n) (order b) e in
-            rw (h, none, e, row) (sym (is-lesser bound (keyOf (order b) b) key (omega arith) (omega arith))))
-            (λ (e : ltb (order n) (order b) ≡ false).
-            let more = ltb-false (order n) (order b) e in
-            rw (h, none, e, none) (sym (not-lesser bound (keyOf (order b) b) key (omega arith) (omega arith))))
-            (either (ltb (order n) (order b)))
-      ])
-      (λ (h : ltb last (order n) ≡ false).
-      let earlier = ltb-false last (order n) h in
-      rw h (sym (too-low bound (keyAt b) key (omega arith))))
-      (either (ltb last (order n)))
+      (λ h. rw h (q (leb-true bound key (and-left _ (ltb key least) h)) (ltb-true key least (and-right (leb bound key) _ h))))
+      (λ h. rw h p)
+      (either (leb bound key && ltb key least))
 
-  least-key : (n : ℕ) → n ≤ 256 → leastFrom bound noKey (keysOf t order n) ≡ keyAt (first n)
-  unfolding leastBy keysOf leastFrom
-  least-key zero l = refl
-  least-key (suc n) l =
-      let before = least-key n (omega arith) in
+  lesser-le : bound ≤ key → lesserFrom bound least key ≤ key
+  lesser-le h =
       ⊎-elim
-      (λ (p : t n ≡ true). rw (p, agree n, p, least-one, before) (beside n (first n) (omega arith) p (λ z. found-by u order 256 n z .below)))
-      (λ (p : t n ≡ false). rw (p, agree n, p) before)
+      (λ l. omega (arith, is-lesser bound least key h (ltb-true key least l)))
+      (λ l. omega (arith, ltb-false key least l, not-lesser bound least key h (ltb-false key least l)))
+      (either (ltb key least))
+
+-- for any test and order: the least is none or the key of one that passes, from the bound on, and at most that of each such
+module _ (t : ℕ → Bool) (order : ℕ → ℕ) (bound : ℕ) where
+  abbrev leastOf : ℕ → ℕ
+  leastOf n = leastFrom bound noKey (keysOf t order n)
+
+  one-hit : (n : ℕ) → t n ≡ true → leastOf (suc n) ≡ lesserFrom bound (leastOf n) (keyOf (order n) n)
+  unfolding keysOf
+  one-hit n p = rw p (least-one bound noKey (keysOf t order n) (keyOf (order n) n))
+
+  one-miss : (n : ℕ) → t n ≡ false → leastOf (suc n) ≡ leastOf n
+  unfolding keysOf
+  one-miss n p = rw p
+
+  least-holds : (P : ℕ → Type 0) (n : ℕ) → P noKey → ((i : ℕ) → i < n → t i ≡ true → bound ≤ keyOf (order i) i → P (keyOf (order i) i)) → P (leastOf n)
+  unfolding keysOf leastFrom
+  least-holds P zero p h = p
+  least-holds P (suc n) p h =
+      let before = least-holds P n p (λ i l. h i (omega arith)) in
+      ⊎-elim
+      (λ q. rw (one-hit n q) (lesser-holds bound (leastOf n) (keyOf (order n) n) P before (λ m k. h n (omega arith) q m)))
+      (λ q. rw (one-miss n q) before)
       (either (t n))
 
-  module _ {r : ℕ} (q : r ≡ leastFrom bound noKey (keysOf t order 256)) where
-    found : r ≡ keyAt (first 256)
-    found = q ∙ least-key 256 (omega arith)
+  least-le : (n i : ℕ) → i < n → t i ≡ true → bound ≤ keyOf (order i) i → leastOf n ≤ keyOf (order i) i
+  least-le zero i l p h = absurd (omega arith)
+  least-le (suc n) i l p h =
+      let before = least-le n i in
+      let old = leastOf n in
+      elim (ℕ-discrete i n) [
+        | yes e ↦ rw (e, one-hit n (rw e at p)) (lesser-le bound old (keyOf (order n) n) (rw e at h))
+        | no d ↦
+            let earlier = before (omega arith) p h in
+            ⊎-elim
+            (λ q. rw (one-hit n q) (lesser-holds bound old (keyOf (order n) n) (λ r. r ≤ keyOf (order i) i) earlier (λ m k. omega arith)))
+            (λ q. rw (one-miss n q) earlier)
+            (either (t n))
+      ]
 
-    some : (first 256 ≡ 256 → ⊥) → r ≡ keyOf (order (first 256)) (first 256)
-    some z = rw (ne-eqb (first 256) 256 z) at found
+-- what is left of the rows that are due, after a place in the order: all of them, no other, and in their order
+pub record Ahead (s : State) (kind last : ℕ) (rows : List ℕ) : Type 0 where
+  pub inside : (i : ℕ) → In i rows → (i < 256) × (dueOf s kind i ≡ true) × (last < orderOf s i)
+  pub all : (i : ℕ) → i < 256 → dueOf s kind i ≡ true → last < orderOf s i → In i rows
+  pub sorted : Sorted (λ i j. orderOf s i < orderOf s j) rows
 
-    first-below : (first 256 ≡ 256 → ⊥) → first 256 < 256
-    first-below z = found-by u order 256 256 z .below
+pub ahead-next : {s : State} {kind last i : ℕ} {rows : List ℕ} → Ahead s kind last (i ∷ rows) → Ahead s kind (orderOf s i) rows
+ahead-next {s} {kind} {last} {i} {rows} a = record {
+  inside = λ j h. let t = a .inside j (inr h) in (t .0, t .1, a .sorted .0 j h);
+  all = λ j l d h. let own = a .inside i (inl refl) in ⊎-elim (λ e. absurd (let same : orderOf s i < orderOf s i = rw e at h in omega arith)) (λ k. k) (a .all j l d (omega arith));
+  sorted = a .sorted .1;
+}
 
-    first-small : (first 256 ≡ 256 → ⊥) → order (first 256) < 72057594037927935
-    first-small z =
-        let f = found-by u order 256 256 z in
-        small (first 256) (f .below) (and-left (t (first 256)) (ltb last (order (first 256))) (sym (agree (first 256)) ∙ f .passes))
+module _ {s : State} {kind : ℕ} (last : ℕ) (g : Good s) {keys : List ℕ} {n : ℕ} (c : Collected s kind 256 keys n) {r : ℕ} (q : r ≡ leastFrom ((last + 1) * 256) noKey (take n keys)) where
+  least : r ≡ leastOf (dueOf s kind) (orderOf s) ((last + 1) * 256) 256
+  least = rw (c .all) at q
 
-    no-first : r ≡ noKey → first 256 ≡ 256
-    no-first e =
-        elim (ℕ-discrete (first 256) 256) [
-          | yes z ↦ z
-          | no z ↦ absurd (omega (arith, some z, first-below z, first-small z))
-        ]
+  pub none-left : Ahead s kind last [] → r ≡ noKey
+  none-left a = least ∙ least-holds (dueOf s kind) (orderOf s) ((last + 1) * 256) (λ x. x ≡ noKey) 256 refl (λ i l d h. absurd (a .all i l d (omega arith)))
 
-    module _ (n : r ≡ noKey → ⊥) where
-      is-some : first 256 ≡ 256 → ⊥
-      is-some z = n (rw (eq-eqb (first 256) 256 z) at found)
+  module _ {i : ℕ} {rows : List ℕ} (a : Ahead s kind last (i ∷ rows)) where
+    own : (i < 256) × (dueOf s kind i ≡ true) × (last < orderOf s i)
+    own = a .inside i (inl refl)
 
-      first-row : r % 256 ≡ first 256
-      first-row = omega (arith, some is-some, first-below is-some)
+    small : orderOf s i < 72057594037927935
+    small = due-small s kind i g (own .0) (own .1)
 
-      first-order : r / 256 ≡ order (first 256)
-      first-order = omega (arith, some is-some, first-below is-some)
+    first-key : r ≡ keyOf (orderOf s i) i
+    first-key =
+        let t = dueOf s kind in
+        let bound = (last + 1) * 256 in
+        let key = keyOf (orderOf s i) i in
+        let low = least-holds t (orderOf s) bound (λ x. key ≤ x) 256 (omega (arith, small, own .0)) (λ j l d h.
+        ⊎-elim (λ e. rw e (omega arith)) (λ k. omega (arith, a .sorted .0 j k, own .0)) (a .all j l d (omega arith))) in
+        omega (arith, least, low, least-le t (orderOf s) bound 256 i (own .0) (own .1) (omega (arith, own .2)))
 
-      first-fits : r / 256 < 72057594037927935
-      first-fits = omega (arith, first-order, first-small is-some)
+    pub some-left : r ≡ noKey → ⊥
+    some-left z = omega (arith, first-key, small, own .0)
 
--- what is due after a place in the order, of what is due at all
-narrowed : (p k z l : Bool) → (l ≡ true → z ≡ true) → (p && (k && l)) ≡ ((p && (k && z)) && l)
-narrowed false k z l h = refl
-narrowed true false z l h = refl
-narrowed true true z true h = rw (h refl)
-narrowed true true z false h = sym (and-false z)
+    pub next-row : r % 256 ≡ i
+    next-row = omega (arith, first-key, own .0)
 
-due-narrowed : (s : State) (kind last i : ℕ) → isDue s kind last i ≡ (isDue s kind 0 i && ltb last (orderOf s i))
-due-narrowed s kind last i =
-    let o = orderOf s i in
-    rw (due-by s kind last i, due-by s kind 0 i)
-    (narrowed (duePair s i) (eqb (s requestKinds i) kind) (ltb 0 o) (ltb last o) (λ h. let after = ltb-true last o h in lt-ltb 0 o (omega arith)))
-
--- the least of the keys collected is that of the next pair
-module _ {s : State} (kind last : ℕ) (g : Good s) {keys : List ℕ} {n : ℕ} (c : Collected s kind 256 keys n) {r : ℕ} (q : r ≡ leastFrom ((last + 1) * 256) noKey (take n keys)) where
-  small-rows : (i : ℕ) → i < 256 → isDue s kind 0 i ≡ true → orderOf s i < 72057594037927935
-  small-rows i l h = due-small s kind i g l refl (ap not h) refl
-
-  collected : r ≡ leastFrom ((last + 1) * 256) noKey (keysOf (isDue s kind 0) (orderOf s) 256)
-  collected = rw (c .all) at q
-
-  pub none-left : r ≡ noKey → nextDue s kind last ≡ 256
-  none-left = no-first (isDue s kind 0) (isDue s kind last) (orderOf s) last (due-narrowed s kind last) small-rows collected
-
-  module _ (h : r ≡ noKey → ⊥) where
-    pub next-row : r % 256 ≡ nextDue s kind last
-    next-row = first-row (isDue s kind 0) (isDue s kind last) (orderOf s) last (due-narrowed s kind last) small-rows collected h
-
-    pub next-order : r / 256 ≡ orderOf s (nextDue s kind last)
-    next-order = first-order (isDue s kind 0) (isDue s kind last) (orderOf s) last (due-narrowed s kind last) small-rows collected h
+    pub next-order : r / 256 ≡ orderOf s i
+    next-order = omega (arith, first-key, own .0)
 
     pub next-fits : r / 256 < 72057594037927935
-    next-fits = first-fits (isDue s kind 0) (isDue s kind last) (orderOf s) last (due-narrowed s kind last) small-rows collected h
+    next-fits = omega (arith, next-order, small)

@@ -1,19 +1,22 @@
--- A row that is due, its key, the keys of all that are due, and the least key from a bound on.
+-- A row that is due, its place in the order and its key, the keys of all that are due, and the least key from a bound on.
 -- Assumes nothing.
 use mathlib.Core.Path.{_≡_}
 use mathlib.Core.Bool.{Bool, _&&_, cond}
 use mathlib.Core.List.{List, [], _∷_, _++_}
 use Prim.Native.Nat.{ℕ, zero, suc, _+_, _*_, _≤_}
-use lib.Dec.{leb, ltb}
+use lib.Dec.{eqb, leb, ltb}
 use lib.ListN.{length, take}
-use Rattle.book.specs.Layout.{today, numbers, settlements}
+use Rattle.book.specs.Layout.{numbers, requestKinds, settlements}
 use Rattle.book.specs.State.{State}
-use Rattle.rules.specs.Requests.{isLive, isPaired, partnerOf}
-use Rattle.rules.specs.Settlement.{orderOf, isDue}
+use Rattle.rules.specs.Settlement.{isDue}
 
--- the later request of a live pair that is due today or earlier
-unfoldable pub duePair : State → ℕ → Bool
-duePair s i = isLive s i && (isPaired s i && (ltb (s numbers (partnerOf s i)) (s numbers i) && leb (s settlements i) (s today 0)))
+-- a row of a kind that is due
+abbrev pub dueOf : State → ℕ → ℕ → Bool
+dueOf s kind i = eqb (s requestKinds i) kind && isDue s i
+
+-- a row's place in the order: by settlement date, then by number
+abbrev pub orderOf : State → ℕ → ℕ
+orderOf s i = s settlements i * 4294967296 + s numbers i
 
 -- a row's place in the order and the row itself as one number; the greatest number of 64 bits stands for no row
 abbrev pub keyOf : ℕ → ℕ → ℕ
@@ -31,7 +34,7 @@ keysOf t order (suc i) = cond (t i) (keysOf t order i ++ (keyOf (order i) i ∷ 
 pub record Collected (s : State) (kind i : ℕ) (keys : List ℕ) (n : ℕ) : Type 0 where
   pub long : length keys ≡ 256
   pub few : n ≤ i
-  pub all : take n keys ≡ keysOf (isDue s kind 0) (orderOf s) i
+  pub all : take n keys ≡ keysOf (dueOf s kind) (orderOf s) i
 
 -- a key where it is one from a bound on and less than the least found so far, else that one
 unfoldable pub lesserFrom : ℕ → ℕ → ℕ → ℕ

@@ -4,9 +4,9 @@ ghost use Prim.Native.Nat.{_+_, _<_, _≤_};
 ghost use lib.ListN.{length, take};
 ghost use Rattle.book.specs.Layout.{bookLength};
 ghost use Rattle.book.specs.State.{state};
-ghost use Rattle.facts.proofs.Keeps.{Good};
-ghost use Rattle.rules.specs.Settlement.{orderOf, isDue};
-ghost use Rattle.due_pairs.specs.Due.{duePair, noKey, Collected, lesserFrom, leastFrom};
+ghost use Rattle.facts.specs.Good.{Good};
+ghost use Rattle.rules.specs.Settlement.{isDue};
+ghost use Rattle.due_pairs.specs.Due.{dueOf, orderOf, noKey, Collected, lesserFrom, leastFrom};
 use book::layout::AMOUNTS;
 use book::layout::ENDS;
 use book::layout::NUMBERS;
@@ -30,7 +30,7 @@ fn order_of(book: &[u8], i: usize) -> u64
 // Is the row the later request of a live pair that is due?
 fn is_due_pair(book: &[u8], i: usize) -> bool
     requires { ⌜ (length (now book) ≡ bookLength) × Good (state (now book)) × (i < 256) ⌝ }
-    ensures { λ r. ⌜ r ≡ duePair (state (now (book .entry))) i ⌝ }
+    ensures { λ r. ⌜ r ≡ isDue (state (now (book .entry))) i ⌝ }
 {
     let number = book::get(book, NUMBERS, i);
     if number == 0 {
@@ -55,7 +55,7 @@ fn is_due_pair(book: &[u8], i: usize) -> bool
 // Is the row the later request of a live pair of a kind that is due? What few rows pass is asked first.
 fn is_due(book: &[u8], kind: u64, i: usize) -> bool
     requires { ⌜ (length (now book) ≡ bookLength) × Good (state (now book)) × (i < 256) ⌝ }
-    ensures { λ r. ⌜ r ≡ isDue (state (now (book .entry))) kind 0 i ⌝ }
+    ensures { λ r. ⌜ r ≡ dueOf (state (now (book .entry))) kind i ⌝ }
 {
     if book::get(book, REQUEST_KINDS, i) != kind {
         return false;

@@ -13,9 +13,9 @@ use Rattle.baskets.specs.Fresh.{FreshAges, EligibilityFor}
 use Rattle.book.specs.Layout.{today, lots, prices, haircuts, quoteDays, maps, greatestAges, exposureBaskets}
 use Rattle.book.specs.State.{State, columnsOf}
 use Rattle.rules.specs.Stock.{basketOf}
-use Rattle.facts.proofs.Facts.{Sound}
+use Rattle.facts.specs.Good.{Sound}
 use Rattle.facts.proofs.Filled.{filled-same}
-use Rattle.facts.proofs.Stock.{age-le}
+use Rattle.facts.proofs.Stock.{age-le, columns-same}
 use Rattle.eligibility.specs.Fresh.{Aged, FreshBaskets, SamePrices}
 
 -- a sound book's baskets take prices of 255 open days at most
@@ -60,15 +60,5 @@ same-then k l = record { columns = l .columns ∙ k .columns; day = l .day ∙ k
 
 -- table by table
 module _ (s t : State) (lot : (i : ℕ) → t lots i ≡ s lots i) (price : (i : ℕ) → t prices i ≡ s prices i) (haircut : (i : ℕ) → t haircuts i ≡ s haircuts i) (quote : (i : ℕ) → t quoteDays i ≡ s quoteDays i) where
-  each : (q i : ℕ) → q < 4 → t (lots + q) i ≡ s (lots + q) i
-  each zero i l = lot i
-  each (suc zero) i l = price i
-  each (suc (suc zero)) i l = haircut i
-  each (suc (suc (suc zero))) i l = quote i
-  each (suc (suc (suc (suc q)))) i l = absurd (omega arith)
-
-  pub columns-same : columnsOf t ≡ columnsOf s
-  columns-same = filled-same (λ k. t (lots + k / 64) (k % 64)) (λ k. s (lots + k / 64) (k % 64)) 256 256 (λ k l. each (k / 64) (k % 64) (omega arith))
-
   pub same-prices : t today 0 ≡ s today 0 → ((b : ℕ) → t greatestAges b ≡ s greatestAges b) → SamePrices s t
-  same-prices d a = record { columns = columns-same; day = d; ages-kept = a }
+  same-prices d a = record { columns = columns-same s t lot price haircut quote; day = d; ages-kept = a }

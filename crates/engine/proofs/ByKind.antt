@@ -20,7 +20,7 @@ use Rattle.rules.specs.Sound.{sound}
 use Rattle.rules.specs.Stock.{holding}
 use Rattle.facts.proofs.Rules.{none-applies}
 use Rattle.accounts.specs.Accounts.{AccountRoom, AccountHolds}
-use Rattle.engine.specs.Entry.{Taken, Accepted}
+use Rattle.engine.specs.Accepted.{Taken, Accepted}
 use Rattle.totals.specs.Totals.{totalsOf}
 use Rattle.totals.specs.declared.Totals as totals
 

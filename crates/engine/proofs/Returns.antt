@@ -24,7 +24,8 @@ use Rattle.book.proofs.Images.{image-state}
 use Rattle.records.proofs.Readings.{reading-taken}
 use Rattle.damage.specs.Damage.{damage}
 use Rattle.damage.proofs.Damage.{Passed, passes, damaged-code, passed-code}
-use Rattle.engine.specs.Entry.{numbersOf, Taken, Accepted}
+use Rattle.engine.specs.Entry.{numbersOf}
+use Rattle.engine.specs.Accepted.{Taken, Accepted}
 
 -- a refusal: the code in the answer, and the book as it was
 abbrev pub Refused : List ℕ → List ℕ → ℕ → Type 0

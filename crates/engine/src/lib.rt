@@ -5,11 +5,13 @@ ghost use Rattle.book.specs.State.{state};
 ghost use Rattle.rules.specs.Call.{stepOf, callAnswer, callBook};
 ghost use Rattle.rules.specs.Codes.{codeOf};
 ghost use Rattle.totals.specs.Totals.{totalsOf};
-ghost use Rattle.engine.specs.Entry.{numbersOf, Taken, Accepted};
+ghost use Rattle.engine.specs.Entry.{numbersOf};
+ghost use Rattle.engine.specs.Accepted.{Taken, Accepted};
+use record_kinds::Fields;
 use totals::Totals;
 
 // The code of a record that was read.
-fn code_of(book: &[u8], kind: u64, fields: &[u64; 8]) -> u64
+fn code_of(book: &[u8], kind: u64, fields: &Fields) -> u64
     requires { ⌜ Taken (now book) kind (now fields) ⌝ }
     ensures { λ r. ⌜ r ≡ codeOf (state (now (book .entry))) kind (now (fields .entry)) ⌝ }
 {
@@ -34,7 +36,7 @@ fn code_of(book: &[u8], kind: u64, fields: &[u64; 8]) -> u64
 }
 
 // The steps of kinds 0 to 5, which answer nothing.
-fn set_up(book: &mut [u8], kind: u64, fields: &[u64; 8])
+fn set_up(book: &mut [u8], kind: u64, fields: &Fields)
     requires { ⌜ Accepted (now book) kind (now fields) × (kind < 6) ⌝ }
     ensures { λ _. ⌜ state (now (book .exit)) ≡ stepOf (state (now (book .entry))) kind (now (fields .entry)) .state ⌝ }
 {
@@ -49,7 +51,7 @@ fn set_up(book: &mut [u8], kind: u64, fields: &[u64; 8])
 }
 
 // The step of an accepted record.
-fn take_step(book: &mut [u8], kind: u64, fields: &[u64; 8]) -> Totals
+fn take_step(book: &mut [u8], kind: u64, fields: &Fields) -> Totals
     requires { ⌜ Accepted (now book) kind (now fields) ⌝ }
     ensures { λ r. ⌜ (r ≡ totalsOf (stepOf (state (now (book .entry))) kind (now (fields .entry)))) × (state (now (book .exit)) ≡ stepOf (state (now (book .entry))) kind (now (fields .entry)) .state) ⌝ }
 {

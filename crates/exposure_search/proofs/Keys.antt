@@ -1,41 +1,21 @@
 -- What each return of the search for the exposure with a key shows.
 -- Assumes nothing.
 use mathlib.Core.Path.{_≡_, sym, _∙_}
-use mathlib.Core.Bool.{Bool, true, false, and-false}
+use mathlib.Core.Bool.{Bool, true, false}
 use mathlib.Core.Logic.{⊎-elim}
 use Prim.Native.Nat.{ℕ, zero, suc, _+_, _≤_, _<_}
 use native.Mathlib.Decide.{ℕ-discrete}
 use native.Mathlib.Omega.{arith}
-use lib.Dec.{eqb, ltb}
-use borrow.Author.Tests.{eq-eqb, ne-eqb, lt-ltb}
+use lib.Dec.{ltb}
+use borrow.Author.Tests.{lt-ltb}
 use Rattle.laws.specs.Search.{least}
 use Rattle.laws.proofs.Cases.{either, clash}
 use Rattle.laws.proofs.Least.{least-hit, least-miss}
-use Rattle.book.specs.Layout.{inUse, exposureGivers, exposureTakers, exposureBaskets, exposureClosings}
+use Rattle.book.specs.Layout.{exposureGivers, exposureTakers, exposureBaskets, exposureClosings}
 use Rattle.book.specs.State.{State}
 use Rattle.rules.specs.Requests.{hasKey, exposureWith}
 use Rattle.exposure_search.specs.Keys.{keySlot}
 use Rattle.exposure_search.specs.Slots.{slotOf}
-
--- a key
-module _ (s : State) (giver taker basket closing e : ℕ) {u : ℕ} (uq : u ≡ s inUse e) where
-  pub key-unused : (u ≡ 1 → ⊥) → false ≡ hasKey s giver taker basket closing e
-  key-unused h = rw (← uq, ne-eqb u 1 h)
-
-  module _ (used : u ≡ 1) {g : ℕ} (gq : g ≡ s exposureGivers e) where
-    pub key-giver : (g ≡ giver → ⊥) → false ≡ hasKey s giver taker basket closing e
-    key-giver h = rw (← gq, ne-eqb g giver h, and-false)
-
-    module _ (gh : g ≡ giver) {t : ℕ} (tq : t ≡ s exposureTakers e) where
-      pub key-taker : (t ≡ taker → ⊥) → false ≡ hasKey s giver taker basket closing e
-      key-taker h = rw (← tq, ne-eqb t taker h, and-false, and-false)
-
-      module _ (th : t ≡ taker) {b : ℕ} (bq : b ≡ s exposureBaskets e) where
-        pub key-basket : (b ≡ basket → ⊥) → false ≡ hasKey s giver taker basket closing e
-        key-basket h = rw (← bq, ne-eqb b basket h, and-false, and-false, and-false)
-
-        pub by-key-closing : {c : ℕ} → b ≡ basket → c ≡ s exposureClosings e → eqb c closing ≡ hasKey s giver taker basket closing e
-        by-key-closing h cq = rw (← uq, eq-eqb u 1 used, ← gq, eq-eqb g giver gh, ← tq, eq-eqb t taker th, ← bq, eq-eqb b basket h, ← cq)
 
 -- the slot by what was read
 pub slot-read : (s : State) (e : ℕ) {r g t b c : ℕ} → g ≡ s exposureGivers e → t ≡ s exposureTakers e → b ≡ s exposureBaskets e → c ≡ s exposureClosings e → r ≡ keySlot g t b c → r ≡ slotOf s e

@@ -3,16 +3,11 @@
 use mathlib.Core.Path.{_≡_}
 use Prim.Native.Nat.{ℕ, _+_, _<_}
 use Rattle.book.specs.Layout.{exposureAmounts}
-use Rattle.book.specs.State.{State, Fits}
+use Rattle.book.specs.State.{State}
 use Rattle.facts.proofs.Sums.{Sums, allNoted}
 use Rattle.rules.specs.Outcome.{Step}
 use Rattle.rules.specs.Stock.{holding}
-use Rattle.facts.proofs.Facts.{Sound}
-
--- a sound state whose numbers fit their bytes
-pub record Good (s : State) : Type 0 where
-  pub facts : Sound s
-  pub fits : Fits s
+use Rattle.facts.specs.Good.{Good}
 
 -- each exposure row's amount is what was settled into it, less what was returned and closed, whether the row is in use or not: one
 -- that was freed holds 0, and keeps its sums until it is given out again. Past the last row nothing is ever noted, so e has no bound

@@ -9,3 +9,4 @@ pub mod Searches
 pub mod Stock
 pub mod Sums
 pub mod Truth
+pub mod Written

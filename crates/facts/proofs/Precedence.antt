@@ -10,6 +10,7 @@ use lib.ListN.{getD}
 use Rattle.laws.proofs.Cases.{and-left, and-right}
 use Rattle.rules.specs.Codes.{openingRules, priceRules, basketRules, depositRules, withdrawalRules, fopRules, returnRules, cancelRules, recallRules, nextDayRules, rulesOf, unknownKind, precedenceOf, inPrecedence, RulesInPrecedence}
 use Rattle.rules.specs.Outcome.{Rule}
+use Rattle.rules.specs.Reads.{account, position, exposure, request, basket, ReadRulesInPrecedence}
 
 -- each list from the kind k on
 abbrev allInPrecedence : ℕ → List (List Rule) → Bool
@@ -25,3 +26,10 @@ kind-at (rs ∷ rss) from (suc k) h =
 pub rules-in-precedence : RulesInPrecedence
 unfolding openingRules priceRules basketRules depositRules withdrawalRules fopRules returnRules cancelRules recallRules nextDayRules
 rules-in-precedence s k r = subst (λ (n : ℕ). inPrecedence (precedenceOf n) (getD (rulesOf s r) k unknownKind) ≡ true) (zero-add k) (kind-at (rulesOf s r) 0 k refl)
+
+pub read-rules-in-precedence : ReadRulesInPrecedence
+read-rules-in-precedence s (account p i) = refl
+read-rules-in-precedence s (position e i) = refl
+read-rules-in-precedence s (exposure e) = refl
+read-rules-in-precedence s (request n) = refl
+read-rules-in-precedence s (basket b) = refl

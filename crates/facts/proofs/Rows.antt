@@ -10,15 +10,15 @@ use lib.Dec.{eqb, leb, ltb}
 use borrow.Author.Tests.{leb-true, le-leb, ltb-true, lt-ltb, eqb-true, eqb-false, eq-eqb, ne-eqb, not-true, not-false}
 use Rattle.laws.specs.Search.{all, between}
 use Rattle.laws.proofs.Cases.{either, clash, or-cases}
-use Rattle.laws.proofs.Least.{all-at, all-hit, all-none}
+use Rattle.laws.proofs.Least.{all-at, all-hit}
 use Rattle.calendar.specs.Target.{openDay}
-use Rattle.book.specs.Layout.{today, tolerance, nextNumber, lots, numbers, requestKinds, sides, givers, takers, basketsOrExposures, amounts, settlements, closings, references, settledAmounts, partners, pairPartials, cancels, ends, inUse, exposureGivers, exposureTakers, exposureBaskets, exposureClosings, exposureAmounts, accounts, positions}
-use Rattle.book.specs.State.{State}
+use Rattle.book.specs.Layout.{today, tolerance, nextNumber, lots, numbers, requestKinds, sides, givers, takers, basketsOrExposures, amounts, settlements, closings, references, settledAmounts, partners, pairPartials, cancels, ends, inUse, exposureGivers, exposureTakers, exposureBaskets, exposureClosings, exposureAmounts, positions, termTables, requestTables, exposureTables}
+use Rattle.book.specs.State.{State, rowsAlike, rowBlank}
+use Rattle.book.proofs.Tables.{every-from}
 use Rattle.rules.specs.Requests.{isUsed, isFop, isReturn, isPaired, partnerOf, exposureOfFop, openOrNone}
-use Rattle.rules.specs.ByRow.{soundHead, soundParties, basketNamed, returnNames, soundFop, soundReturn, soundKind, soundMarks, soundFields, same, alike, blank, marksAlike, soundPair, soundPaired, soundUnpaired, blankRow, soundRow, soundExposure, soundPosition}
+use Rattle.rules.specs.ByRow.{soundHead, soundParties, basketNamed, returnNames, soundFop, soundReturn, soundKind, soundMarks, soundFields, same, marksAlike, soundPair, soundPaired, soundUnpaired, soundRow, soundExposure, soundPosition}
 use Rattle.rules.specs.Stock.{participantSetUp, securitySetUp, basketSetUp}
-use Rattle.facts.proofs.Facts.{all-of}
-use Rattle.facts.proofs.Truth.{split, join, Between, between-facts, facts-between}
+use Rattle.facts.proofs.Truth.{split, join, Between, between-facts, facts-between, all-of}
 
 -- the book as a whole
 pub record Head (s : State) : Type 0 where
@@ -235,40 +235,35 @@ module _ (s : State) where
 
     pair-facts : (j : ℕ) → soundPair s i j ≡ true → Pair s i j
     pair-facts j h =
-        let t = split (ltb j 256 ∷ eqb (s partners j) (i + 1) ∷ eqb (s sides i + s sides j) 1 ∷ same s requestKinds i j ∷ alike s 6 givers i j ∷ marksAlike s i j ∷ []) h in
-        let at : (f : ℕ) → givers ≤ f → f < givers + 6 → s f i ≡ s f j = λ f g l. eqb-true (s f i) (s f j) (all-at (λ f. same s f i j) 6 givers (t .1 .1 .1 .1 .0) f g l) in
+        let t = split (ltb j 256 ∷ eqb (s partners j) (i + 1) ∷ eqb (s sides i + s sides j) 1 ∷ same s requestKinds i j ∷ rowsAlike s termTables i j ∷ marksAlike s i j ∷ []) h in
+        let u = split (same s givers i j ∷ same s takers i j ∷ same s basketsOrExposures i j ∷ same s amounts i j ∷ same s settlements i j ∷ same s closings i j ∷ []) (t .1 .1 .1 .1 .0) in
         let m = split (same s settledAmounts i j ∷ same s ends i j ∷ same s pairPartials i j ∷ []) (t .1 .1 .1 .1 .1) in
         record {
           partner-below = ltb-true j 256 (t .0);
           named = eqb-true (s partners j) (i + 1) (t .1 .0);
           opposite = eqb-true (s sides i + s sides j) 1 (t .1 .1 .0);
           kind = eqb-true (s requestKinds i) (s requestKinds j) (t .1 .1 .1 .0);
-          giver = at givers (omega arith) (omega arith);
-          taker = at takers (omega arith) (omega arith);
-          object = at basketsOrExposures (omega arith) (omega arith);
-          amount = at amounts (omega arith) (omega arith);
-          settlement = at settlements (omega arith) (omega arith);
-          closing = at closings (omega arith) (omega arith);
+          giver = eqb-true (s givers i) (s givers j) (u .0);
+          taker = eqb-true (s takers i) (s takers j) (u .1 .0);
+          object = eqb-true (s basketsOrExposures i) (s basketsOrExposures j) (u .1 .1 .0);
+          amount = eqb-true (s amounts i) (s amounts j) (u .1 .1 .1 .0);
+          settlement = eqb-true (s settlements i) (s settlements j) (u .1 .1 .1 .1 .0);
+          closing = eqb-true (s closings i) (s closings j) (u .1 .1 .1 .1 .1);
           settled = eqb-true (s settledAmounts i) (s settledAmounts j) (m .0);
           end = eqb-true (s ends i) (s ends j) (m .1 .0);
           partial = eqb-true (s pairPartials i) (s pairPartials j) (m .1 .1);
         }
 
-    -- the six tables from the givers on
-    alike-of : (j : ℕ) → Pair s i j → alike s 6 givers i j ≡ true
+    -- the terms of a pair
+    alike-of : (j : ℕ) → Pair s i j → rowsAlike s termTables i j ≡ true
     alike-of j p =
-        let t : ℕ → Bool = λ f. same s f i j in
-        all-hit t 5 givers (eq-eqb (s givers i) (s givers j) (p .giver))
-        ∙ all-hit t 4 takers (eq-eqb (s takers i) (s takers j) (p .taker))
-        ∙ all-hit t 3 basketsOrExposures (eq-eqb (s basketsOrExposures i) (s basketsOrExposures j) (p .object))
-        ∙ all-hit t 2 amounts (eq-eqb (s amounts i) (s amounts j) (p .amount))
-        ∙ all-hit t 1 settlements (eq-eqb (s settlements i) (s settlements j) (p .settlement))
-        ∙ all-hit t 0 closings (eq-eqb (s closings i) (s closings j) (p .closing))
-        ∙ all-none t references
+        let e : (f : ℕ) → s f i ≡ s f j → same s f i j ≡ true = λ f. eq-eqb (s f i) (s f j) in
+        join (same s givers i j ∷ same s takers i j ∷ same s basketsOrExposures i j ∷ same s amounts i j ∷ same s settlements i j ∷ same s closings i j ∷ [])
+        (e givers (p .giver), (e takers (p .taker), (e basketsOrExposures (p .object), (e amounts (p .amount), (e settlements (p .settlement), e closings (p .closing))))))
 
     facts-pair : (j : ℕ) → Pair s i j → soundPair s i j ≡ true
     facts-pair j p =
-        join (ltb j 256 ∷ eqb (s partners j) (i + 1) ∷ eqb (s sides i + s sides j) 1 ∷ same s requestKinds i j ∷ alike s 6 givers i j ∷ marksAlike s i j ∷ []) (
+        join (ltb j 256 ∷ eqb (s partners j) (i + 1) ∷ eqb (s sides i + s sides j) 1 ∷ same s requestKinds i j ∷ rowsAlike s termTables i j ∷ marksAlike s i j ∷ []) (
           lt-ltb j 256 (p .partner-below),
           (
             eq-eqb (s partners j) (i + 1) (p .named),
@@ -328,7 +323,9 @@ module _ (s : State) where
 
     -- an unused row, in each of its tables
     pub unused-blank : soundRow s i ≡ true → isUsed s i ≡ false → (f : ℕ) → requestKinds ≤ f → f < requestKinds + 14 → s f i ≡ 0
-    unused-blank h u f g l = eqb-true (s f i) 0 (all-at (λ f. eqb (s f i) 0) 14 requestKinds (rw u at h) f g l)
+    unused-blank h u f g l =
+        let t : ℕ → Bool = λ f. eqb (s f i) 0 in
+        eqb-true (s f i) 0 (all-at t 15 numbers (sym (every-from t 15 numbers) ∙ (rw u at h)) f (omega arith) (omega arith))
 
     -- and back
     pub paired-sound : isUsed s i ≡ true → Fields s i → isPaired s i ≡ true → Paired s i → soundRow s i ≡ true
@@ -338,7 +335,9 @@ module _ (s : State) where
     unpaired-sound u f e n = rw (u, facts-fields f, e) (facts-unpaired n)
 
     pub blank-sound : isUsed s i ≡ false → ((f : ℕ) → requestKinds ≤ f → f < requestKinds + 14 → s f i ≡ 0) → soundRow s i ≡ true
-    blank-sound u z = rw u (all-of (λ f. eqb (s f i) 0) 14 requestKinds (λ f g l. eq-eqb (s f i) 0 (z f g l)))
+    blank-sound u z =
+        let t : ℕ → Bool = λ f. eqb (s f i) 0 in
+        rw u (every-from t 15 numbers ∙ all-hit t 14 numbers (not-false (t numbers) u) ∙ all-of t 14 requestKinds (λ f g l. eq-eqb (s f i) 0 (z f g l)))
 
   module _ (e : ℕ) where
     -- an exposure is used or not
@@ -367,25 +366,17 @@ module _ (s : State) where
 
     pub no-exposure : soundExposure s e ≡ true → s inUse e ≡ 0 → NoExposure s e
     no-exposure h u =
-        let at : (f : ℕ) → exposureGivers ≤ f → f < exposureGivers + 5 → s f e ≡ 0 = λ f g l. eqb-true (s f e) 0 (all-at (λ f. eqb (s f e) 0) 5 exposureGivers (rw u at h) f g l) in
+        let t = split (eqb (s exposureGivers e) 0 ∷ eqb (s exposureTakers e) 0 ∷ eqb (s exposureBaskets e) 0 ∷ eqb (s exposureClosings e) 0 ∷ eqb (s exposureAmounts e) 0 ∷ []) (rw u at h) in
         record {
-          giver = at exposureGivers (omega arith) (omega arith);
-          taker = at exposureTakers (omega arith) (omega arith);
-          basket = at exposureBaskets (omega arith) (omega arith);
-          closing = at exposureClosings (omega arith) (omega arith);
-          amount = at exposureAmounts (omega arith) (omega arith);
+          giver = eqb-true (s exposureGivers e) 0 (t .0);
+          taker = eqb-true (s exposureTakers e) 0 (t .1 .0);
+          basket = eqb-true (s exposureBaskets e) 0 (t .1 .1 .0);
+          closing = eqb-true (s exposureClosings e) 0 (t .1 .1 .1 .0);
+          amount = eqb-true (s exposureAmounts e) 0 (t .1 .1 .1 .1);
         }
 
     pub no-exposure-sound : s inUse e ≡ 0 → NoExposure s e → soundExposure s e ≡ true
-    no-exposure-sound u x =
-        let t : ℕ → Bool = λ f. eqb (s f e) 0 in
-        rw u
-        (all-hit t 4 exposureGivers (eq-eqb (s exposureGivers e) 0 (x .giver))
-        ∙ all-hit t 3 exposureTakers (eq-eqb (s exposureTakers e) 0 (x .taker))
-        ∙ all-hit t 2 exposureBaskets (eq-eqb (s exposureBaskets e) 0 (x .basket))
-        ∙ all-hit t 1 exposureClosings (eq-eqb (s exposureClosings e) 0 (x .closing))
-        ∙ all-hit t 0 exposureAmounts (eq-eqb (s exposureAmounts e) 0 (x .amount))
-        ∙ all-none t accounts)
+    no-exposure-sound u x = rw (u, x .giver, x .taker, x .basket, x .closing, x .amount)
 
     pub used-or-not : soundExposure s e ≡ true → (s inUse e ≡ 0) ⊎ (s inUse e ≡ 1)
     used-or-not h =

@@ -4,7 +4,7 @@ use mathlib.Core.Path.{_≡_, refl, sym, ap, _∙_}
 use mathlib.Core.Bool.{Bool, true, false, not, _&&_, cond}
 use mathlib.Core.List.{List, [], _∷_}
 use mathlib.Core.Logic.{_⊎_, inl, inr, ⊎-elim}
-use Prim.Native.Nat.{ℕ, _+_, _*_, _/_, _%_, _≤_, _<_}
+use Prim.Native.Nat.{ℕ, zero, suc, _+_, _*_, _/_, _%_, _≤_, _<_}
 use native.Mathlib.Nat.{zero-add}
 use native.Mathlib.Omega.{arith}
 use lib.Dec.{eqb, leb}
@@ -17,24 +17,26 @@ use Rattle.laws.proofs.Filled.{filled-at}
 use Rattle.laws.proofs.Sum.{sum-part}
 use Rattle.calendar.specs.Target.{openDay}
 use Rattle.calendar.proofs.OpenDays.{open-within}
-use Rattle.securities.specs.Security.{securityAt, InBounds, AllInBounds}
-use Rattle.securities.specs.Position.{Within, nominalsOf}
-use Rattle.book.specs.Layout.{today, lots, prices, haircuts, quoteDays, greatestAges, maps, inUse, exposureGivers, accounts, positions}
+use Rattle.securities.specs.Security.{securityAt}
+use Rattle.securities.specs.Bounds.{InBounds, AllInBounds, Within}
+use Rattle.securities.specs.Position.{nominalsOf}
+use Rattle.book.specs.Layout.{today, securityTables, lots, prices, haircuts, quoteDays, greatestAges, maps, inUse, exposureGivers, accounts, positions}
 use Rattle.book.specs.State.{State, columnsOf, rowAt}
 use Rattle.laws.specs.Search.{between}
 use Rattle.rules.specs.ByRow.{soundSecurity, soundBasket}
 use Rattle.rules.specs.Stock.{securitySetUp, basketSetUp, accountOf, positionOf, holding, positionFrom}
-use Rattle.facts.proofs.Facts.{Sound}
+use Rattle.facts.specs.Good.{Sound}
+use Rattle.facts.proofs.Filled.{filled-same}
 use Rattle.facts.proofs.Rows.{Head, head-facts, used-exposure, position-facts}
 use Rattle.facts.proofs.Truth.{split, between-facts}
 
 -- the columns of a state, number by number
 module _ (s : State) where
-  column-at : (q i : ℕ) → q < 4 → i < 64 → getD (columnsOf s) (64 * q + i) 0 ≡ s (lots + q) i
+  column-at : (q i : ℕ) → q < 4 → i < 64 → getD (columnsOf s) (64 * q + i) 0 ≡ s (getD securityTables q 0) i
   column-at q i h l =
       let div : (64 * q + i) / 64 ≡ q = omega arith in
       let place : (64 * q + i) % 64 ≡ i = omega arith in
-      filled-at (λ k. s (lots + k / 64) (k % 64)) 256 256 (64 * q + i) (omega arith) (omega arith) ∙ rw (div, place)
+      filled-at (λ k. s (getD securityTables (k / 64) 0) (k % 64)) 256 256 (64 * q + i) (omega arith) (omega arith) ∙ rw (div, place)
 
   pub lot-at : (i : ℕ) → i < 64 → securityAt (columnsOf s) i .lot ≡ s lots i
   lot-at i l = rw (zero-add i) at (column-at 0 i (omega arith) l)
@@ -44,6 +46,18 @@ module _ (s : State) where
 
   pub haircut-at : (i : ℕ) → i < 64 → securityAt (columnsOf s) i .pricing .haircut ≡ s haircuts i
   haircut-at i l = column-at 2 i (omega arith) l
+
+  -- a state with the same securities
+  module _ (t : State) (lot : (i : ℕ) → t lots i ≡ s lots i) (price : (i : ℕ) → t prices i ≡ s prices i) (haircut : (i : ℕ) → t haircuts i ≡ s haircuts i) (quote : (i : ℕ) → t quoteDays i ≡ s quoteDays i) where
+    each : (q i : ℕ) → q < 4 → t (getD securityTables q 0) i ≡ s (getD securityTables q 0) i
+    each zero i l = lot i
+    each (suc zero) i l = price i
+    each (suc (suc zero)) i l = haircut i
+    each (suc (suc (suc zero))) i l = quote i
+    each (suc (suc (suc (suc q)))) i l = absurd (omega arith)
+
+    pub columns-same : columnsOf t ≡ columnsOf s
+    columns-same = filled-same (λ k. t (getD securityTables (k / 64) 0) (k % 64)) (λ k. s (getD securityTables (k / 64) 0) (k % 64)) 256 256 (λ k l. each (k / 64) (k % 64) (omega arith))
 
   -- the account and the position, number by number
   pub account-at : (p i : ℕ) → i < 64 → getD (accountOf s p) i 0 ≡ s accounts (64 * p + i)

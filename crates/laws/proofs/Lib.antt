@@ -4,7 +4,9 @@ pub mod Chains
 pub mod Filled
 pub mod Largest
 pub mod Least
+pub mod Lists
 pub mod Numbers
 pub mod Patches
 pub mod Sum
 pub mod Table
+pub mod Tests

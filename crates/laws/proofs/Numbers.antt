@@ -3,10 +3,8 @@
 use mathlib.Core.Path.{_≡_, refl, sym}
 use mathlib.Core.List.{List, [], _∷_, _++_, append-nil, append-assoc}
 use Prim.Native.Nat.{ℕ, zero, suc, _+_, _*_, _/_, _%_, _^_, _≤_, _<_}
-use native.Mathlib.Nat.{add-zero, add-suc, add-assoc, mul-assoc, pow-zero, pow-suc, pow-succ', pow-le-pow-right, div-one, div-div-eq-div-mul, div-add-mod'}
-use native.Mathlib.Numerals.{add-one}
+use native.Mathlib.Nat.{add-zero, add-suc, add-assoc, mul-assoc, pow-zero, pow-suc, pow-succ', div-one, div-div-eq-div-mul, div-add-mod'}
 use native.Mathlib.Omega.{arith}
-use lib.Dec.{lit<}
 use lib.ListN.{length, getD, take, drop, length-append, length-drop, List·getD-append}
 use lib.Seq.{take-suc, getD-drop, getD-at}
 use Rattle.laws.specs.Numbers.{numberAt, bytesOf}
@@ -14,19 +12,6 @@ use Rattle.laws.specs.Numbers.{numberAt, bytesOf}
 pub number-first : (b : List ℕ) (at : ℕ) → 0 ≡ numberAt b at 0
 unfolding numberAt
 number-first b at = refl
-
--- one byte more, in the code's i + 1
-pub number-next : (b : List ℕ) (at i : ℕ) {n d : ℕ} → n ≡ numberAt b at i → d ≡ getD b (at + i) 0 → n * 256 + d ≡ numberAt b at (i + 1)
-unfolding numberAt
-number-next b at i e g = rw (add-one, e, g)
-
--- one byte more keeps a number within its bytes
-pub within-next : {n d : ℕ} (i : ℕ) → n < 256 ^ i → d < 256 → n * 256 + d < 256 ^ (i + 1)
-within-next i h l = rw add-one (omega (arith, pow-suc 256 i))
-
--- a number of at most seven bytes leaves room for one more in 64 bits
-pub room : {n : ℕ} (i : ℕ) → n < 256 ^ i → i ≤ 7 → n < 72057594037927936
-room i h l = omega (arith, pow-le-pow-right {n = 256} (lit< tt) l)
 
 -- the same bytes, the same number
 pub number-same : (b c : List ℕ) (p q w : ℕ) → ((i : ℕ) → i < w → getD b (p + i) 0 ≡ getD c (q + i) 0) → numberAt b p w ≡ numberAt c q w
@@ -71,6 +56,14 @@ number-split b at w (suc v) =
     let high = numberAt b at w in
     let shift : high * 256 ^ suc v ≡ high * 256 ^ v * 256 = rw pow-suc (sym (mul-assoc high (256 ^ v) 256)) in
     rw (add-suc w v, shift, number-split b at w v, ← add-assoc at w v) (omega arith)
+
+-- one byte, and two parts of the same width, as the code puts them together
+pub number-one : (b : List ℕ) (at : ℕ) {n : ℕ} → n ≡ getD b at 0 → n ≡ numberAt b at 1
+unfolding numberAt
+number-one b at e = rw add-zero (omega arith)
+
+pub number-halves : (w : ℕ) (b : List ℕ) (at : ℕ) {m n : ℕ} → m ≡ numberAt b at w → n ≡ numberAt b (at + w) w → m * 256 ^ w + n ≡ numberAt b at (w + w)
+number-halves w b at e g = rw (e, g) (sym (number-split b at w w))
 
 -- and its bytes
 pub bytes-split : (w v x : ℕ) → bytesOf (w + v) x ≡ bytesOf w (x / 256 ^ v) ++ bytesOf v x

@@ -1,14 +1,14 @@
 -- Bytes put into a list at a place: what stands there and elsewhere, as bytes and as numbers.
 -- Assumes nothing.
 use mathlib.Core.Path.{_≡_, sym, ap, _∙_}
-use mathlib.Core.List.{List, _++_, append-assoc}
-use Prim.Native.Nat.{ℕ, _+_, _-_, _≤_, _<_}
-use native.Mathlib.Nat.{add-assoc}
+use mathlib.Core.List.{List, [], _∷_, _++_, append-nil, append-assoc}
+use Prim.Native.Nat.{ℕ, _+_, _-_, _/_, _%_, _^_, _≤_, _<_}
+use native.Mathlib.Nat.{add-zero, add-assoc}
 use native.Mathlib.Omega.{arith}
-use lib.ListN.{length, getD, take, drop, length-append, length-drop, List·getD-append}
-use lib.Seq.{length-take-le, getD-take, getD-drop, getD-append-add, drop-drop, take-at, drop-at}
-use Rattle.laws.specs.Numbers.{numberAt}
-use Rattle.laws.proofs.Numbers.{number-same}
+use lib.ListN.{length, getD, take, drop, set, take-append-drop, length-append, length-drop, List·getD-append}
+use lib.Seq.{length-take-le, getD-take, getD-drop, getD-append-add, drop-drop, take-at, drop-at, sets-eq}
+use Rattle.laws.specs.Numbers.{numberAt, bytesOf}
+use Rattle.laws.proofs.Numbers.{number-same, bytes-length, bytes-split}
 
 -- the list b with the n bytes of ys at a place
 abbrev pub patched : List ℕ → ℕ → ℕ → List ℕ → List ℕ
@@ -60,6 +60,26 @@ patch-next b ys zs at m n long room =
     let tail : drop (at + m + n) (patched b at m ys) ≡ drop (at + m + n) b =
     sym (drop-drop n (at + m) (patched b at m ys)) ∙ ap (drop n) (drop-at begin (drop (at + m) b) (at + m) size) ∙ drop-drop n (at + m) b in
     rw (take-at begin (drop (at + m) b) (at + m) size, tail, append-assoc (take at b) ys zs, add-assoc at m n)
+
+-- the bytes of a number: none, the lowest, by their halves, and in a width that is known
+pub put-none : (b : List ℕ) (at w x : ℕ) → w ≡ 0 → b ≡ patched b at w (bytesOf w x)
+unfolding bytesOf
+put-none b at w x e = rw (e, append-nil, add-zero) (sym (take-append-drop at b))
+
+pub put-byte : (b : List ℕ) (at x : ℕ) → at + 1 ≤ length b → set b at (x % 256) ≡ patched b at 1 (bytesOf 1 x)
+unfolding bytesOf
+put-byte b at x h = sets-eq (x % 256 ∷ []) b at h
+
+pub put-halves : (w : ℕ) (b c d : List ℕ) (at x : ℕ) → at + (w + w) ≤ length b → c ≡ patched b at w (bytesOf w (x / 256 ^ w)) → d ≡ patched c (at + w) w (bytesOf w x) → d ≡ patched b at (w + w) (bytesOf (w + w) x)
+put-halves w b c d at x h e g =
+    let high = bytesOf w (x / 256 ^ w) in
+    g
+    ∙ ap (λ (l : List ℕ). patched l (at + w) w (bytesOf w x)) e
+    ∙ patch-next b high (bytesOf w x) at w w (bytes-length w (x / 256 ^ w)) (omega arith)
+    ∙ ap (patched b at (w + w)) (sym (bytes-split w w x))
+
+pub put-width : (v : ℕ) (b c : List ℕ) (at w x : ℕ) → w ≡ v → c ≡ patched b at v (bytesOf v x) → c ≡ patched b at w (bytesOf w x)
+put-width v b c at w x e g = rw e g
 
 -- a part that was lent and came back
 pub lent-back : (b ys : List ℕ) (at n : ℕ) → take at b ++ (ys ++ drop n (drop at b)) ≡ patched b at n ys

@@ -20,8 +20,8 @@ use Rattle.rules.specs.Codes.{openingRules, codeOf}
 use Rattle.ledger.specs.Ledger.{Call, send, ask, Paper, onPaper, takenDown, paperCode, paperNext, paperCodes, paperAfter, bookCode, bookNext, bookCodes, bookAfter, Agrees, Opened, Demand3}
 use Rattle.rules.specs.Outcome.{lowest}
 use Rattle.rules.specs.Reads.{Read, readRules, readCode}
-use Rattle.facts.proofs.Facts.{facts-sound}
-use Rattle.facts.proofs.Keeps.{Good}
+use Rattle.facts.proofs.Written.{facts-sound}
+use Rattle.facts.specs.Good.{Good}
 use Rattle.request_laws.proofs.Entering.{keeps-fop, keeps-return}
 use Rattle.request_laws.proofs.Cancelling.{keeps-cancel}
 use Rattle.settlement_laws.proofs.Keeping.{keeps-settlement}

@@ -14,8 +14,8 @@ use Rattle.laws.proofs.Cases.{either, and-left, and-right}
 use Rattle.book.specs.Layout.{bookLength, exposureAmounts}
 use Rattle.book.specs.State.{State, state, image}
 use Rattle.book.proofs.Images.{state-image, state-fits}
-use Rattle.facts.proofs.Facts.{sound-facts, facts-sound}
-use Rattle.facts.proofs.Keeps.{Good}
+use Rattle.facts.proofs.Written.{sound-facts, facts-sound}
+use Rattle.facts.specs.Good.{Good}
 use Rattle.records.specs.Reading.{read}
 use Rattle.records.proofs.Readings.{reading-taken}
 use Rattle.rules.specs.Call.{stepOf, recordCode, opens, callCode, callStep, callBook, LeavesSound, AcceptedLeavesSound}

@@ -2,8 +2,8 @@
 -- Assumes nothing.
 use mathlib.Core.Path.{_≡_, refl, sym}
 use mathlib.Core.Bool.{true}
-use mathlib.Core.List.{List, [], _∷_}
-use Prim.Native.Nat.{ℕ, _≤_}
+use mathlib.Core.List.{List, _∷_}
+use Prim.Native.Nat.{ℕ, _-_, _≤_}
 use native.Mathlib.Omega.{arith}
 use lib.ListN.{length, replicate, length-replicate}
 use borrow.Author.Tests.{eq-eqb}
@@ -14,9 +14,9 @@ use Rattle.calendar.specs.Easter.{easter}
 use Rattle.calendar.specs.Gregorian.{leapDay, startOf, yearOf, dayOfYear}
 use Rattle.calendar.specs.Target.{holiday, openDay}
 use Rattle.calendar.proofs.OpenDays.{open-within}
-use Rattle.record_kinds.specs.Kinds.{kinds, offsetOf, inRange}
+use Rattle.record_kinds.specs.Kinds.{kinds, places, offsetOf, inRange}
 use Rattle.records.specs.Reading.{read, taken}
-use Rattle.records.specs.Writing.{areLegal, imageTo, writeCode, written}
+use Rattle.records.specs.Writing.{areLegal, recordBytesTo, writeCode, written}
 use Rattle.records.proofs.RoundTrip.{reads-back}
 use Rattle.records.proofs.Returns.{write-legal}
 use Rattle.book.specs.Layout.{bookLength}
@@ -28,7 +28,7 @@ use Rattle.ledger.specs.Ledger.{openingOf, Opened, OpeningAccepted}
 
 module _ (day tolerance : ℕ) (open-day : openDay day ≡ true) (low : 1 ≤ tolerance) (high : tolerance ≤ 100000000) where
   abbrev fields : List ℕ
-  fields = day ∷ tolerance ∷ 0 ∷ 0 ∷ 0 ∷ 0 ∷ 0 ∷ 0 ∷ []
+  fields = day ∷ tolerance ∷ replicate (places - 2) 0
 
   legal : areLegal 0 fields ≡ true
   unfolding all kinds
@@ -40,10 +40,10 @@ module _ (day tolerance : ℕ) (open-day : openDay day ≡ true) (low : 1 ≤ to
   -- the writer takes the record, whatever stood in the nine bytes, and writes the opening's
   writable : writeCode 0 fields (replicate 9 0) ≡ 0
   unfolding kinds offsetOf sum
-  writable = sym (write-legal 0 fields (replicate 9 0) {n = 9} {t = true} (omega arith) refl refl (sym legal) refl)
+  writable = sym (write-legal 0 fields (replicate 9 0) (omega arith) refl legal)
 
   is-written : written 0 fields (replicate 9 0) ≡ openingOf day tolerance
-  unfolding written imageTo kinds bytesOf
+  unfolding written recordBytesTo kinds bytesOf
   is-written = rw writable
 
   -- "Every legal record reads back as it was written"

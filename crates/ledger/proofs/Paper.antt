@@ -15,7 +15,8 @@ use Rattle.book.specs.State.{State}
 use Rattle.ledger.specs.Ledger.{Sums, Paper, onPaper, noted, allNoted}
 use Rattle.rules.specs.Outcome.{Event, given, settled, returned, closed}
 use Rattle.rules.specs.Stock.{holding}
-use Rattle.facts.proofs.Keeps.{Good, Amounts}
+use Rattle.facts.proofs.Keeps.{Amounts}
+use Rattle.facts.specs.Good.{Good}
 use Rattle.facts.proofs.Sums as told
 
 -- the paper's sums as the laws of the steps count them

@@ -19,7 +19,8 @@ use Rattle.rules.specs.Fields.{depositKind, withdrawalKind, field}
 use Rattle.rules.specs.Requesting.{entered, cancelled}
 use Rattle.rules.specs.Settlement.{settlement}
 use Rattle.rules.specs.SetUp.{opened, priced, enrolled, basketMade, deposited, withdrawn}
-use Rattle.facts.proofs.Keeps.{Good, Keeps}
+use Rattle.facts.proofs.Keeps.{Keeps}
+use Rattle.facts.specs.Good.{Good}
 use Rattle.setup_laws.proofs.SetUp.{good-opening, opening-holds, opening-amount, keeps-price, keeps-participant, keeps-basket, nominalAt, deposit, withdrawal}
 use Rattle.ledger.proofs.Paper.{sumsOf, InOrder, on-paper, noted-in-order}
 

@@ -6,15 +6,18 @@ use mathlib.Core.List.{List, [], _∷_, _++_}
 use Prim.Native.Nat.{ℕ, _+_, _-_, _≤_, _<_}
 use lib.Dec.{eqb}
 use lib.ListN.{length, replicate}
+use Rattle.limits.specs.Limits.{greatestTolerance}
 use Rattle.laws.specs.Numbers.{bytesOf}
 use Rattle.calendar.specs.Target.{openDay}
 use Rattle.book.specs.Layout.{bookLength, inUse, exposureAmounts, keyTables}
 use Rattle.book.specs.State.{State, state, rowIn}
 use Rattle.records.specs.Reading.{read}
 use Rattle.rules.specs.Call.{stepOf, recordCode, opens, callCode, callBook}
+use Rattle.rules.specs.DayChange.{nextDay}
 use Rattle.rules.specs.Outcome.{Event, given, settled, returned, closed, lowest}
 use Rattle.rules.specs.Fields.{openingKind, depositKind, withdrawalKind, accountOwner, accountSecurity, nominalIn}
 use Rattle.rules.specs.Reads.{Read, readRules, readCode}
+use Rattle.rules.specs.Settlement.{settlement}
 use Rattle.rules.specs.Stock.{holding}
 
 -- a call of the list: a record's bytes, of any kind, cut or unknown ones too; or a read
@@ -158,7 +161,26 @@ openingOf day tolerance = 0 ∷ (bytesOf 4 day ++ bytesOf 4 tolerance)
 -- there are lists that demand 3 speaks of: "Every other call is accepted", so openings are
 pub record OpeningAccepted : Type 0 where
   -- on every book of the right length, of every open day, with every "tolerance 32 (1 to 100,000,000)"
-  pub every : (b : List ℕ) (day tolerance : ℕ) → length b ≡ bookLength → openDay day ≡ true → 1 ≤ tolerance → tolerance ≤ 100000000
+  pub every : (b : List ℕ) (day tolerance : ℕ) → length b ≡ bookLength → openDay day ≡ true → 1 ≤ tolerance → tolerance ≤ greatestTolerance
       → Opened b (openingOf day tolerance)
   -- the first record of document 01's input, "0: 1, 10000", on the program's book that "starts as zero bytes"
   pub first-line : Opened (replicate bookLength 0) (0 ∷ 0 ∷ 0 ∷ 0 ∷ 1 ∷ 0 ∷ 0 ∷ 39 ∷ 16 ∷ [])
+
+-- the cents that events tell of
+abbrev pub centsIn : Event → ℕ
+centsIn (given e) = 0
+centsIn (settled e x) = x
+centsIn (returned e x) = x
+centsIn (closed e x) = x
+
+unfoldable pub centsTold : List Event → ℕ
+centsTold [] = 0
+centsTold (e ∷ es) = centsIn e + centsTold es
+
+-- "M: cents settled by both", "M: amounts closed" are what the ledger is told
+pub record MoneyTold (s : State) : Type 0 where
+  pub settle : settlement s .m ≡ centsTold (settlement s .events)
+  pub next-day : nextDay s .m ≡ centsTold (nextDay s .events)
+
+abbrev pub AllMoneyTold : Type 0
+AllMoneyTold = (s : State) → MoneyTold s

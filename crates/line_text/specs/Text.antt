@@ -4,7 +4,6 @@ use mathlib.Core.Bool.{cond}
 use mathlib.Core.List.{List, [], _∷_, _++_}
 use Prim.Native.Nat.{ℕ, zero, suc, _+_, _/_, _%_}
 use lib.Dec.{ltb}
-use lib.ListN.{length, getD, take, drop}
 use Rattle.rules.specs.Outcome.{Answer, answer}
 
 -- the digits of n in ASCII, the first one first, at most m of them
@@ -28,11 +27,3 @@ lineOf place kind a = word place 32 ++ word kind 32 ++ word (a .code) 32 ++ word
 unfoldable pub lastLine : ℕ → List ℕ → List ℕ
 lastLine place [] = []
 lastLine place (kind ∷ rest) = lineOf place kind (answer 3 0 0 0)
-
--- the answer in a lent array of four numbers
-abbrev pub answerOf : List ℕ → Answer
-answerOf l = answer (getD l 0 0) (getD l 1 0) (getD l 2 0) (getD l 3 0)
-
--- the buffer l with a text at a place; what stands before and behind stays
-unfoldable pub put : List ℕ → ℕ → List ℕ → List ℕ
-put l at text = take at l ++ text ++ drop (at + length text) l

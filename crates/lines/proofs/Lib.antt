@@ -1,4 +1,5 @@
 pub mod Answers
-pub mod Batches
 pub mod Cuts
+pub mod Moving
+pub mod Program
 pub mod Serving

@@ -1,2 +1,2 @@
-pub mod Cuts
-pub mod Lines
+pub mod Pieces
+pub mod Program

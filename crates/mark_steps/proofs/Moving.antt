@@ -5,7 +5,8 @@ use mathlib.Core.Bool.{Bool, true, false}
 use mathlib.Core.List.{List}
 use Prim.Native.Nat.{ℕ, _*_}
 use Rattle.book.specs.Layout.{positions}
-use Rattle.book.specs.State.{State, Lowerable}
+use Rattle.book.specs.State.{State}
+use Rattle.book.specs.Fits.{Lowerable}
 use Rattle.rules.specs.Marking.{moved}
 use Rattle.rules.specs.Stock.{pledge, giveBack}
 use Rattle.marking_laws.specs.Pass.{isEmpty}

@@ -8,8 +8,8 @@ use Rattle.book.specs.Layout.{bookLength, inUse}
 use Rattle.book.specs.State.{State, state}
 use Rattle.bonds.specs.Moves.{SoundBook}
 use Rattle.bonds.proofs.Rows.{good-of}
-use Rattle.facts.proofs.Facts.{facts-sound}
-use Rattle.facts.proofs.Keeps.{Good}
+use Rattle.facts.proofs.Written.{facts-sound}
+use Rattle.facts.specs.Good.{Good}
 use Rattle.rules.specs.Marking.{moved, ineligibleBack, excessBack, shortfallIn}
 use Rattle.marking_laws.specs.Pass.{onUsed}
 use Rattle.marking_laws.proofs.Marking.{Kept, kept-ineligible, kept-excess, kept-shortfall, own-ineligible, own-excess, own-shortfall}

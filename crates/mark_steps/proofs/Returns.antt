@@ -13,7 +13,7 @@ use Rattle.laws.specs.Filled.{filled}
 use Rattle.laws.specs.Search.{all}
 use Rattle.laws.proofs.Cases.{either}
 use Rattle.laws.proofs.Filled.{filled-at}
-use Rattle.laws.proofs.Least.{Rest, loop-fails, loop-passes, all-same}
+use Rattle.laws.proofs.Least.{all-same}
 use Rattle.baskets.specs.Fresh.{eligibleBy}
 use Rattle.baskets.specs.declared.Eligibility.{Eligibility}
 use Rattle.book.specs.Layout.{positions}
@@ -22,17 +22,6 @@ use Rattle.facts.proofs.Stock.{position-at}
 use Rattle.marking_laws.specs.Pass.{isEmpty}
 use Rattle.rules.specs.Stock.{positionOf}
 use Rattle.mark_steps.specs.Stepped.{ineligibleIn, mayStay}
-
--- a search for a nominal that is not 0
-abbrev pub isZero : List ℕ → ℕ → Bool
-isZero nominals i = eqb (getD nominals i 0) 0
-
-module _ (nominals : List ℕ) {i : ℕ} {whole : Bool} (r : Rest (isZero nominals) 64 i whole) (l : i < 64) where
-  pub found-some : (getD nominals i 0 ≡ 0 → ⊥) → false ≡ whole
-  found-some n = loop-fails r l refl (rw (ne-eqb (getD nominals i 0) 0 n))
-
-  pub found-none : getD nominals i 0 ≡ 0 → Rest (isZero nominals) 64 (i + 1) whole
-  found-none z = loop-passes r l refl (rw (eq-eqb (getD nominals i 0) 0 z))
 
 -- one security of a position
 module _ (position columns : List ℕ) (x : Eligibility) (i : ℕ) where

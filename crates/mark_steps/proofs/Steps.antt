@@ -16,6 +16,7 @@ use Rattle.baskets.specs.Fresh.{EligibilityFor}
 use Rattle.baskets.specs.declared.Eligibility.{Eligibility}
 use Rattle.baskets.proofs.Eligible.{eligible-same}
 use Rattle.picking.specs.Free.{freed}
+use Rattle.picking.specs.Pick.{picked}
 use Rattle.picking.specs.declared.Freed.{Freed}
 use Rattle.picking.specs.declared.Outcome.{Outcome}
 use Rattle.securities.specs.Position.{worth, nominalsOf}
@@ -30,6 +31,7 @@ use Rattle.facts.proofs.Stock.{position-at}
 use Rattle.rules.specs.Marking.{moved, ineligibleOf, ineligibleBack, excessBack, shortfallIn, missingOf}
 use Rattle.rules.specs.Stock.{basketOf, positionOf, valueOf, eligibleFor, freeFor, pickFor, pledge, giveBack}
 use Rattle.marking_laws.specs.Pass.{onUsed, isEmpty}
+use Rattle.marking_laws.proofs.Counts.{picked-empty, freed-empty}
 use Rattle.marking_laws.proofs.Marking.{ineligible-returnable, amounts-kept}
 use Rattle.marking_laws.proofs.Moved.{moved-none, own-giveBack}
 use Rattle.marking_laws.proofs.Passes.{own-used}
@@ -38,6 +40,13 @@ use Rattle.mark_steps.proofs.Moving.{none-back, some-back}
 use Rattle.mark_steps.proofs.Passable.{Passable, first-pass, second-pass, third-pass, stepped-on}
 use Rattle.mark_steps.proofs.Values.{value-freed, missing-used, lacking-used, lacking-is}
 use Rattle.mark_steps.proofs.Returns.{all-stay}
+
+-- nothing was freed or found where the count is 0, and only there
+pub free-empty : (columns position : List ℕ) (exposure : ℕ) {f : Freed} → f ≡ freed columns position exposure → isEmpty (f .nominals) ≡ eqb (f .count) 0
+free-empty columns position exposure e = rw e (freed-empty columns position exposure 64 (omega arith))
+
+pub pick-empty : (columns account : List ℕ) (test : ℕ → Bool) (amount : ℕ) {o : Outcome} → o ≡ picked columns account test amount → isEmpty (o .nominals) ≡ eqb (o .count) 0
+pick-empty columns account test amount e = rw e (picked-empty columns account test amount 64 (omega arith))
 
 -- what a step that moved bonds, or none, leaves
 abbrev pub Moved : (State → ℕ → List ℕ → State) → List ℕ → List ℕ → ℕ → List ℕ → ℕ → Type 0

@@ -1,6 +1,7 @@
 // One exposure's part in each pass of a mark: its ineligible bonds go back, then those it does not need; what is missing is searched for.
 ghost use mathlib.Core.Path.{_≡_};
 ghost use Prim.Native.Nat.{_<_};
+ghost use lib.Dec.{eqb};
 ghost use lib.ListN.{length};
 ghost use Rattle.laws.specs.Filled.{filled};
 ghost use Rattle.laws.specs.Search.{all};
@@ -10,7 +11,7 @@ ghost use Rattle.eligibility.specs.Fresh.{FreshBaskets};
 ghost use Rattle.bonds.specs.Moves.{SoundBook, GivingBack};
 ghost use Rattle.rules.specs.Marking.{moved, ineligibleBack, excessBack, shortfallIn, missingOf};
 ghost use Rattle.rules.specs.Stock.{positionOf, giveBack};
-ghost use Rattle.securities.specs.Security.{AllInBounds};
+ghost use Rattle.securities.specs.Bounds.{AllInBounds};
 ghost use Rattle.marking_laws.specs.Pass.{isEmpty};
 ghost use Rattle.mark_steps.specs.Stepped.{Stepped, bit, ineligibleIn, mayStay};
 use baskets::Eligibility;
@@ -24,26 +25,12 @@ pub struct Passed {
     pub missing: u64,
 }
 
-// Are all nominals 0?
-fn is_empty(nominals: &[u64; 64]) -> bool
-    ensures { λ r. ⌜ r ≡ isEmpty (now (nominals .entry)) ⌝ }
-{
-    let mut i: usize = 0;
-    while i < 64 {
-        if nominals[i] != 0 {
-            return false;
-        }
-        i += 1;
-    }
-    true
-}
-
-// Bonds go back from an exposure's position into its giver's account; 1 where there are any.
-fn give_any_back(book: &mut [u8], e: usize, nominals: &[u64; 64]) -> u64
-    requires { ⌜ (length (now book) ≡ bookLength) × GivingBack (state (now book)) e (now nominals) ⌝ }
+// Bonds of so many securities go back from an exposure's position into its giver's account; 1 where there are any.
+fn give_any_back(book: &mut [u8], e: usize, nominals: &[u64; 64], count: u64) -> u64
+    requires { ⌜ (length (now book) ≡ bookLength) × GivingBack (state (now book)) e (now nominals) × (isEmpty (now nominals) ≡ eqb count 0) ⌝ }
     ensures { λ r. ⌜ (state (now (book .exit)) ≡ giveBack (state (now (book .entry))) e (now (nominals .entry))) × (r ≡ bit (moved (state (now (book .entry))) (state (now (book .exit))) e)) ⌝ }
 {
-    if is_empty(nominals) {
+    if count == 0 {
         return 0;
     }
     bonds::give_back(book, e, nominals);
@@ -139,7 +126,7 @@ pub fn free_excess(book: &mut [u8], columns: &[u64; 256], e: usize) -> Passed
     let amount = book::get(book, EXPOSURE_AMOUNTS, e);
     let freed = picking::free(&position, columns, amount);
     let nominals = freed.nominals;
-    let moved = give_any_back(book, e, &nominals);
+    let moved = give_any_back(book, e, &nominals, freed.count);
     Passed {
         moved,
         missing: bonds::missing_from(amount, freed.left),
@@ -161,10 +148,10 @@ pub fn search_missing(
         return Passed { moved: 0, missing };
     }
     let found = bonds::pick_for(book, columns, since, e, missing);
-    let nominals = found.nominals;
-    if is_empty(&nominals) {
+    if found.count == 0 {
         return Passed { moved: 0, missing };
     }
+    let nominals = found.nominals;
     bonds::pledge(book, e, &nominals);
     let position = book::row_at(book, POSITIONS, 64 * e);
     let value = securities::worth_of(&position, columns);

@@ -1,3 +1,4 @@
+pub mod Counts
 pub mod Marking
 pub mod Moved
 pub mod Passes

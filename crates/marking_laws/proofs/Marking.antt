@@ -22,8 +22,8 @@ use Rattle.rules.specs.Marking.{onExposures, ineligibleOf, ineligibleBack, exce
 use Rattle.rules.specs.Outcome.{lowest}
 use Rattle.rules.specs.Fields.{field}
 use Rattle.rules.specs.Stock.{eligibleFor, securitySetUp, valueOf, freeFor, pickFor, pledge, giveBack, holding}
-use Rattle.facts.proofs.Facts.{Sound}
-use Rattle.facts.proofs.Keeps.{Good, Keeps}
+use Rattle.facts.specs.Good.{Sound, Good}
+use Rattle.facts.proofs.Keeps.{Keeps}
 use Rattle.facts.proofs.Rows.{position-facts}
 use Rattle.facts.proofs.Rules.{none-applies, none-early, goes-on}
 use Rattle.facts.proofs.Truth.{split}

@@ -12,9 +12,10 @@ use borrow.Author.Tests.{eqb-true, eqb-false, eq-eqb, ne-eqb}
 use Rattle.laws.specs.Search.{all}
 use Rattle.laws.proofs.Cases.{either, clash}
 use Rattle.laws.proofs.Least.{all-at, all-same}
-use Rattle.facts.proofs.Facts.{all-of}
+use Rattle.facts.proofs.Truth.{all-of}
 use Rattle.book.specs.Layout.{exposureGivers, accounts, positions}
-use Rattle.book.specs.State.{State, raised, lowered, Lowerable}
+use Rattle.book.specs.State.{State, raised, lowered}
+use Rattle.book.specs.Fits.{Lowerable}
 use Rattle.book.proofs.Moves.{raised-other, lowered-other, moved-cases}
 use Rattle.bond_laws.proofs.Moving.{pledge-position, giveBack-position}
 use Rattle.rules.specs.Marking.{moved}

@@ -14,11 +14,11 @@ use Rattle.laws.proofs.Filled.{filled-length, filled-at}
 use Rattle.baskets.specs.Basket.{eligible}
 use Rattle.picking.specs.Pick.{picked, butNot}
 use Rattle.securities.specs.Position.{worth, nominalsOf}
-use Rattle.book.specs.Layout.{today, lots, exposureGivers, exposureAmounts, accounts, positions}
+use Rattle.book.specs.Layout.{today, lots, prices, haircuts, quoteDays, exposureGivers, exposureAmounts, accounts, positions}
 use Rattle.book.specs.State.{State, columnsOf}
 use Rattle.bond_laws.proofs.Moving.{pledge-position, giveBack-account, giveBack-position}
 use Rattle.facts.proofs.Filled.{filled-same}
-use Rattle.facts.proofs.Stock.{account-at, position-at}
+use Rattle.facts.proofs.Stock.{account-at, position-at, columns-same}
 use Rattle.rules.specs.Marking.{oneNominal, recalled, substitutes, substituted}
 use Rattle.rules.specs.Fields.{field}
 use Rattle.rules.specs.Stock.{accountOf, positionOf, basketOf, valueOf, pledge}
@@ -28,7 +28,8 @@ use Rattle.marking_laws.proofs.Moved.{Bonds, own-pledge, own-giveBack}
 -- the securities are read from other tables than the bonds
 pub columns-kept : {s t : State} → Bonds s t → columnsOf t ≡ columnsOf s
 columns-kept {s} {t} b =
-    filled-same (λ k. t (lots + k / 64) (k % 64)) (λ k. s (lots + k / 64) (k % 64)) 256 256 (λ k l. b .others (lots + k / 64) (k % 64) (λ q. omega arith) (λ q. omega arith))
+    let at : (f i : ℕ) → f < accounts → t f i ≡ s f i = λ f i l. b .others f i (λ q. omega arith) (λ q. omega arith) in
+    columns-same s t (λ i. at lots i (omega arith)) (λ i. at prices i (omega arith)) (λ i. at haircuts i (omega arith)) (λ i. at quoteDays i (omega arith))
 
 -- one nominal among 64
 pub one-same : (i n : ℕ) → i < 64 → getD (oneNominal i n) i 0 ≡ n

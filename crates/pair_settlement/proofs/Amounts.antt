@@ -7,9 +7,10 @@ use Rattle.book.specs.Layout.{tolerance, basketsOrExposures, settledAmounts, pa
 use Rattle.book.specs.State.{State, put}
 use Rattle.picking.specs.declared.Outcome.{Outcome}
 use Rattle.rules.specs.Requests.{restOf, exposureOfFop}
-use Rattle.rules.specs.Settlement.{bothSettled, returnAmount, returnSettled, fopAmount, fopSettled}
+use Rattle.rules.specs.Settlement.{bothSettled, returnAmount, returnSettled}
 use Rattle.rules.specs.Stock.{eligibleFor, pickFor, freeFor, pledge, giveBack}
-use Rattle.pair_settlement.specs.Pairs.{amountFor, returnLeft, fopLeft}
+use Rattle.settlement_laws.specs.Ways.{fopAmount, fopSettled, Way, returnWay, fopWay, left}
+use Rattle.pair_settlement.specs.Pairs.{amountFor}
 
 -- both rows and the exposure, written one after the other
 pub all-noted : (s : State) (i x e y : ℕ) {p own other : ℕ} {t u v : State} → p ≡ s partners i → own ≡ s settledAmounts i → other ≡ s settledAmounts (p - 1)
@@ -21,7 +22,7 @@ module _ (s : State) (i : ℕ) {e exposure : ℕ} (eq : e ≡ s basketsOrExposur
   pub return-amount : {rest : ℕ} → rest ≡ restOf s i → x ≡ min rest exposure → x ≡ returnAmount s i
   return-amount rq xq = rw (xq, rq, wq, eq)
 
-  pub return-done : x ≡ returnAmount s i → (x ≡ 0 → ⊥) → {t u : State} → t ≡ put (bothSettled s i x) exposureAmounts e (exposure - x) → u ≡ giveBack t e (freeFor t e (exposure - x) .nominals) → u ≡ returnLeft s i
+  pub return-done : x ≡ returnAmount s i → (x ≡ 0 → ⊥) → {t u : State} → t ≡ put (bothSettled s i x) exposureAmounts e (exposure - x) → u ≡ giveBack t e (freeFor t e (exposure - x) .nominals) → u ≡ left returnWay s i
   unfolding returnSettled
   return-done xq n tq uq = rw (ne-eqb (returnAmount s i) 0 (λ z. n (xq ∙ z)), uq, tq, xq, wq, eq)
 
@@ -51,14 +52,10 @@ module _ (s : State) (i : ℕ) {e exposure rest : ℕ} (eq : e ≡ exposureOfFop
     unfolding fopAmount
     fop-amount h xq = rw (le-ltb 10000000000000 (s exposureAmounts (exposureOfFop s i) + restOf s i) (rw over at h), xq, oq, rq, eq)
 
-    pub fop-done : x ≡ fopAmount s i → (x ≡ 0 → ⊥) → {t u : State} → t ≡ put (bothSettled s i x) exposureAmounts e (exposure + x) → u ≡ pledge t e (o .nominals) → u ≡ fopLeft s i
+    pub fop-done : x ≡ fopAmount s i → (x ≡ 0 → ⊥) → {t u : State} → t ≡ put (bothSettled s i x) exposureAmounts e (exposure + x) → u ≡ pledge t e (o .nominals) → u ≡ left fopWay s i
     unfolding fopSettled
     fop-done xq n tq uq = rw (ne-eqb (fopAmount s i) 0 (λ z. n (xq ∙ z)), uq, tq, xq, oq, rq, wq, eq)
 
 -- where nothing settles, all stays
-module _ (s : State) (i : ℕ) {x : ℕ} (z : x ≡ 0) where
-  pub return-none : x ≡ returnAmount s i → s ≡ returnLeft s i
-  return-none q = rw (eq-eqb (returnAmount s i) 0 (sym q ∙ z))
-
-  pub fop-none : x ≡ fopAmount s i → s ≡ fopLeft s i
-  fop-none q = rw (eq-eqb (fopAmount s i) 0 (sym q ∙ z))
+pub none-settles : (y : Way) (s : State) (i : ℕ) {x : ℕ} → x ≡ 0 → x ≡ y .amount s i → s ≡ left y s i
+none-settles y s i z q = rw (eq-eqb (y .amount s i) 0 (sym q ∙ z))

@@ -6,17 +6,18 @@ use mathlib.Core.List.{List}
 use Prim.Native.Nat.{ℕ, _+_, _-_, _≤_, _<_}
 use native.Mathlib.Omega.{arith}
 use lib.Dec.{eqb}
-use borrow.Author.Tests.{eqb-false, eq-eqb, not-true}
-use Rattle.book.specs.Layout.{requestKinds, amounts, settledAmounts, partners, inUse, exposureAmounts}
+use borrow.Author.Tests.{eqb-false, not-true}
+use Rattle.book.specs.Layout.{requestKinds, settledAmounts, partners, inUse, exposureAmounts}
 use Rattle.book.specs.State.{State, put, columnsOf}
-use Rattle.rules.specs.Requests.{isPaired, restOf, exposureOfFop}
+use Rattle.rules.specs.Requests.{isPaired, restOf}
 use Rattle.rules.specs.Settlement.{bothSettled}
-use Rattle.facts.proofs.Keeps.{Good}
-use Rattle.facts.proofs.Rows.{Fields, Kind, fop, return, Return, Paired, used-fields, used-paired, used-exposure}
-use Rattle.settlement_laws.proofs.Settling.{return-names, fop-below}
-use Rattle.eligibility.proofs.Fresh.{columns-same}
+use Rattle.facts.specs.Good.{Good}
+use Rattle.facts.proofs.Rows.{Fields, Kind, fop, return, Paired, used-fields, used-paired, used-exposure}
+use Rattle.settlement_laws.proofs.Pairs.{amount-le}
+use Rattle.facts.proofs.Stock.{columns-same}
 use Rattle.bonds.specs.Moves.{Pledging, Freeable}
-use Rattle.pair_settlement.specs.Pairs.{PairOf, Settleable}
+use Rattle.settlement_laws.specs.Ways.{PairOf}
+use Rattle.pair_settlement.specs.Pairs.{Settleable}
 
 -- what the numbers of a pair and of an exposure leave as it is
 module _ (s : State) (i x d y : ℕ) where
@@ -34,10 +35,6 @@ module _ (s : State) (i x d y : ℕ) where
 
 module _ {s : State} (g : Good s) where
   -- a row of a kind is a FOP or a return
-  amount-of : {i : ℕ} → Kind s i → s amounts i ≤ 1000000000000
-  amount-of (fop k f) = f .amount-high
-  amount-of (return k r) = r .amount-high
-
   pub kind-of : {i : ℕ} → Kind s i → (s requestKinds i ≡ 7 → ⊥) → s requestKinds i ≡ 6
   kind-of (fop k f) n = k
   kind-of (return k r) n = absurd (n k)
@@ -50,7 +47,7 @@ module _ {s : State} (g : Good s) where
     pair-paired = used-paired s i (g .facts .row i (p .below)) (p .used) (p .paired)
 
     pub rest-le : restOf s i ≤ 1000000000000
-    rest-le = omega (arith, amount-of (pair-fields .kind))
+    rest-le = omega (arith, amount-le (pair-fields .kind))
 
     names-partner : isPaired s i ≡ true → 0 < s partners i
     names-partner h = let n = eqb-false (s partners i) 0 (not-true (eqb (s partners i) 0) h) in omega arith
@@ -63,15 +60,9 @@ module _ {s : State} (g : Good s) where
           below = p .below;
           paired = names-partner (p .paired);
           partner = r .pair .partner-below;
-          own = omega (arith, f .settled, amount-of (f .kind));
-          other = omega (arith, f .settled, amount-of (f .kind), r .pair .settled);
+          own = omega (arith, f .settled, amount-le (f .kind));
+          other = omega (arith, f .settled, amount-le (f .kind), r .pair .settled);
         }
-
-  pub return-pair : {i : ℕ} → PairOf s 7 i → Return s i
-  return-pair {i} p = return-names s i g (p .below) (p .used) (p .paired) (eq-eqb (s requestKinds i) 7 (p .kind-is))
-
-  pub fop-pair : {i : ℕ} → PairOf s 6 i → exposureOfFop s i < 64
-  fop-pair {i} p = fop-below s i g (p .below) (p .used) (p .paired) (eq-eqb (s requestKinds i) 6 (p .kind-is))
 
   pub exposure-le : (e : ℕ) → e < 64 → s inUse e ≡ 1 → s exposureAmounts e ≤ 10000000000000
   exposure-le e l u = used-exposure s e (g .facts .exposure e l) u .amount

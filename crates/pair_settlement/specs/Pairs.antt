@@ -1,36 +1,21 @@
--- One pair: what settling it counts on, and what it leaves.
+-- One pair: what settling it counts on, and what settles of a FOP.
 -- Assumes nothing.
-use mathlib.Core.Path.{_≡_}
-use mathlib.Core.Bool.{true, cond}
+use mathlib.Core.Bool.{cond}
 use Prim.Native.Nat.{ℕ, _+_, _-_, _≤_, _<_}
 use lib.Dec.{eqb, ltb}
-use Rattle.book.specs.Layout.{tolerance, requestKinds, settledAmounts, partners, pairPartials}
+use Rattle.limits.specs.Limits.{greatestAmount}
+use Rattle.book.specs.Layout.{tolerance, settledAmounts, partners, pairPartials}
 use Rattle.book.specs.State.{State}
-use Rattle.rules.specs.Requests.{isUsed, isPaired, partnerOf}
-use Rattle.rules.specs.Settlement.{returnAmount, returnSettled, fopAmount, fopSettled}
-
--- a paired row of a kind
-pub record PairOf (s : State) (kind i : ℕ) : Type 0 where
-  pub below : i < 256
-  pub used : isUsed s i ≡ true
-  pub paired : isPaired s i ≡ true
-  pub kind-is : s requestKinds i ≡ kind
+use Rattle.rules.specs.Requests.{partnerOf}
 
 -- both rows can take so much more
 pub record Settleable (s : State) (i x : ℕ) : Type 0 where
   pub below : i < 256
   pub paired : 0 < s partners i
   pub partner : partnerOf s i < 256
-  pub own : s settledAmounts i + x ≤ 1000000000000
-  pub other : s settledAmounts (partnerOf s i) + x ≤ 1000000000000
+  pub own : s settledAmounts i + x ≤ greatestAmount
+  pub other : s settledAmounts (partnerOf s i) + x ≤ greatestAmount
 
 -- what a FOP settles of its rest, for the value found: the cases of `fopAmount` after the limit of an exposure
 abbrev pub amountFor : State → ℕ → ℕ → ℕ → ℕ
 amountFor s i rest found = cond (ltb (rest - found) (s tolerance 0)) rest (cond (eqb (s pairPartials i) 1) found 0)
-
--- the state that is left: as it was where nothing settles
-abbrev pub returnLeft : State → ℕ → State
-returnLeft s i = cond (eqb (returnAmount s i) 0) s (returnSettled s i)
-
-abbrev pub fopLeft : State → ℕ → State
-fopLeft s i = cond (eqb (fopAmount s i) 0) s (fopSettled s i)

@@ -5,10 +5,11 @@ ghost use lib.ListN.{length};
 ghost use Rattle.eligibility.specs.Fresh.{FreshBaskets};
 ghost use Rattle.book.specs.Layout.{settledAmounts, amounts, exposureAmounts, bookLength};
 ghost use Rattle.book.specs.State.{state, put, columnsOf};
-ghost use Rattle.facts.proofs.Keeps.{Good};
+ghost use Rattle.facts.specs.Good.{Good};
 ghost use Rattle.rules.specs.Requests.{restOf, exposureOfFop};
-ghost use Rattle.rules.specs.Settlement.{bothSettled, returnAmount, fopAmount};
-ghost use Rattle.pair_settlement.specs.Pairs.{PairOf, Settleable, amountFor, returnLeft, fopLeft};
+ghost use Rattle.rules.specs.Settlement.{bothSettled, returnAmount};
+ghost use Rattle.settlement_laws.specs.Ways.{PairOf, fopAmount, returnWay, fopWay, left};
+ghost use Rattle.pair_settlement.specs.Pairs.{Settleable, amountFor};
 use book::layout::AMOUNTS;
 use book::layout::BASKETS_OR_EXPOSURES;
 use book::layout::CLOSINGS;
@@ -19,6 +20,7 @@ use book::layout::PARTNERS;
 use book::layout::SETTLED_AMOUNTS;
 use book::layout::TAKERS;
 use book::layout::TOLERANCE;
+use limits::GREATEST_EXPOSURE;
 
 // What is left to settle.
 fn rest_of(book: &[u8], i: usize) -> u64
@@ -44,7 +46,7 @@ fn note_settled(book: &mut [u8], i: usize, x: u64, e: usize, exposure: u64)
 // Settles a return: the lesser of its rest and the exposure, which is lowered and freed. The cents settled.
 pub fn settle_return(book: &mut [u8], columns: &[u64; 256], i: usize) -> u64
     requires { ⌜ (length (now book) ≡ bookLength) × Good (state (now book)) × PairOf (state (now book)) 7 i × (now columns ≡ columnsOf (state (now book))) ⌝ }
-    ensures { λ r. ⌜ (r ≡ returnAmount (state (now (book .entry))) i) × (state (now (book .exit)) ≡ returnLeft (state (now (book .entry))) i) ⌝ }
+    ensures { λ r. ⌜ (r ≡ returnAmount (state (now (book .entry))) i) × (state (now (book .exit)) ≡ left returnWay (state (now (book .entry))) i) ⌝ }
 {
     let e = book::get(book, BASKETS_OR_EXPOSURES, i) as usize;
     let exposure = book::get(book, EXPOSURE_AMOUNTS, e);
@@ -90,12 +92,12 @@ fn amount_for(book: &[u8], i: usize, rest: u64, found: u64) -> u64
 // Settles a FOP: Picks its rest, and the exposure grows by what settles. The cents settled.
 pub fn settle_fop(book: &mut [u8], columns: &[u64; 256], since: &[u64; 16], i: usize) -> u64
     requires { ⌜ (length (now book) ≡ bookLength) × Good (state (now book)) × PairOf (state (now book)) 6 i × (now columns ≡ columnsOf (state (now book))) × FreshBaskets (state (now book)) (now since) ⌝ }
-    ensures { λ r. ⌜ (r ≡ fopAmount (state (now (book .entry))) i) × (state (now (book .exit)) ≡ fopLeft (state (now (book .entry))) i) ⌝ }
+    ensures { λ r. ⌜ (r ≡ fopAmount (state (now (book .entry))) i) × (state (now (book .exit)) ≡ left fopWay (state (now (book .entry))) i) ⌝ }
 {
     let e = exposure_of_fop(book, i);
     let exposure = book::get(book, EXPOSURE_AMOUNTS, e);
     let rest = rest_of(book, i);
-    if 10000000000000 < exposure + rest {
+    if GREATEST_EXPOSURE < exposure + rest {
         return 0;
     }
     let outcome = bonds::pick_for(book, columns, since, e, rest);

@@ -13,10 +13,12 @@ use Rattle.laws.proofs.Cases.{either}
 use Rattle.laws.proofs.Largest.{largest-unique, largest-le, largest-holds}
 use Rattle.securities.specs.declared.Security.{Security}
 use Rattle.valuation.specs.declared.Pricing.{Pricing}
-use Rattle.valuation.specs.Value.{value, nominalWithin}
+use Rattle.valuation.specs.Value.{value}
+use Rattle.valuation.specs.Inverse.{nominalWithin}
 use Rattle.valuation.proofs.Inverse.{worth-within, within-worth}
 use Rattle.valuation.proofs.Laws.{value-zero, value-mono}
-use Rattle.parcels.specs.Lots.{parcel, noParcel, lotsToPick, parcelToPick, lotsToSpare, parcelToSpare, nominalToKeep}
+use Rattle.parcels.specs.Lots.{parcel, noParcel, lotsToPick, parcelToPick}
+use Rattle.parcels.specs.Spare.{lotsToSpare, parcelToSpare, nominalToKeep}
 use Rattle.parcels.specs.declared.Parcel.{Parcel}
 
 -- a count within the whole lots of a nominal is a nominal within it, and the other way round

@@ -1,1 +1,2 @@
 pub mod Lots
+pub mod Spare

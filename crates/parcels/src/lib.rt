@@ -1,9 +1,12 @@
 // Whole lots of one security: how many a pick takes, how many a free gives back. One division finds each.
 ghost use mathlib.Core.Path.{_≡_};
 ghost use Prim.Native.Nat.{_<_, _≤_, _-_, _*_, _/_, min};
-ghost use Rattle.securities.specs.Security.{InBounds};
-ghost use Rattle.valuation.specs.Value.{value, Bounded};
-ghost use Rattle.parcels.specs.Lots.{parcelToPick, parcelToSpare, nominalToKeep};
+ghost use Rattle.limits.specs.Limits.{greatestLot, greatestNominal};
+ghost use Rattle.securities.specs.Bounds.{InBounds};
+ghost use Rattle.valuation.specs.Value.{value};
+ghost use Rattle.valuation.specs.Inverse.{Bounded};
+ghost use Rattle.parcels.specs.Lots.{parcelToPick};
+ghost use Rattle.parcels.specs.Spare.{parcelToSpare, nominalToKeep};
 use securities::Security;
 use valuation::Pricing;
 
@@ -22,7 +25,7 @@ pub fn smaller(a: u64, b: u64) -> u64
 
 // The whole lots of a nominal; the division is of 32 bits, which is quicker.
 fn whole_lots(nominal: u64, lot: u64) -> u64
-    requires { ⌜ (nominal ≤ 500000000) × (0 < lot) × (lot ≤ 1000000) ⌝ }
+    requires { ⌜ (nominal ≤ greatestNominal) × (0 < lot) × (lot ≤ greatestLot) ⌝ }
     ensures { λ r. ⌜ (r ≡ nominal / lot * lot) × (r ≤ nominal) ⌝ }
 {
     let n = nominal as u32;
@@ -32,7 +35,7 @@ fn whole_lots(nominal: u64, lot: u64) -> u64
 
 // As many whole lots of the account as are worth no more than what remains.
 pub fn parcel_to_pick(s: Security, account: u64, remains: u64) -> Parcel
-    requires { ⌜ (account ≤ 500000000) × InBounds s ⌝ }
+    requires { ⌜ (account ≤ greatestNominal) × InBounds s ⌝ }
     ensures { λ r. ⌜ r ≡ parcelToPick s account remains ⌝ }
 {
     let lot = s.lot;
@@ -84,7 +87,7 @@ fn nominal_to_keep(others: u64, exposure: u64, pricing: Pricing) -> u64
 
 // As many lots as can go while a position stays worth the exposure, with what it loses in value.
 pub fn parcel_to_free(s: Security, nominal: u64, worth: u64, exposure: u64) -> Parcel
-    requires { ⌜ (nominal ≤ 500000000) × (value (s .pricing) nominal ≤ worth) × InBounds s ⌝ }
+    requires { ⌜ (nominal ≤ greatestNominal) × (value (s .pricing) nominal ≤ worth) × InBounds s ⌝ }
     ensures { λ r. ⌜ r ≡ parcelToSpare s nominal (worth - value (s .pricing) nominal) exposure ⌝ }
 {
     let lot = s.lot;

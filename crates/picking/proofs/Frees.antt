@@ -22,8 +22,9 @@ use Rattle.securities.specs.Security.{securityAt}
 use Rattle.securities.proofs.Positions.{value-part, worth-one}
 use Rattle.valuation.specs.Value.{value}
 use Rattle.valuation.proofs.Laws.{value-mono}
-use Rattle.picking.specs.Free.{remaining, enough, lotsToFree, whole, freeFrom, freedAbove, parcelBack, firstToFree}
-use Rattle.parcels.specs.Lots.{lotsToSpare, parcelToSpare}
+use Rattle.picking.specs.Free.{remaining, enough, lotsToFree, whole, freeFrom, freedAbove}
+use Rattle.picking.specs.FreeSteps.{parcelBack, firstToFree}
+use Rattle.parcels.specs.Spare.{lotsToSpare, parcelToSpare}
 use Rattle.picking.specs.declared.Freed.{Freed}
 use Rattle.parcels.specs.declared.Parcel.{Parcel}
 use Rattle.parcels.proofs.Parcels.{spared-within}

@@ -1,17 +1,14 @@
 -- Document 01, "Steps": Free down to exposure E. What it leaves says the nominal given back of each of the 64 securities,
 -- the value of the position that is left, and how many securities gave back.
 -- Assumes nothing.
-use mathlib.Core.Bool.{Bool, cond}
+use mathlib.Core.Bool.{Bool}
 use mathlib.Core.List.{List}
 use Prim.Native.Nat.{ℕ, zero, suc, _+_, _*_, _-_, _/_, min}
-use lib.Dec.{leb, ltb}
+use lib.Dec.{leb}
 use lib.ListN.{getD, set, replicate}
 use Rattle.laws.specs.Search.{largest}
 use Rattle.securities.specs.Position.{worth, nominalsOf}
 use Rattle.securities.specs.Security.{securityAt}
-use Rattle.parcels.specs.Lots.{parcelToSpare}
-use Rattle.parcels.specs.declared.Parcel.{Parcel}
-use Rattle.valuation.specs.Value.{value}
 use Rattle.picking.specs.declared.Freed.{Freed}
 
 module _ (columns position : List ℕ) where
@@ -46,14 +43,3 @@ module _ (columns position : List ℕ) where
   -- Free
   abbrev pub freed : ℕ → Freed
   freed exposure = freedAbove exposure 64
-
--- the securities that Free looks at, as a number: none where the position is worth less than the exposure, else all 64
-abbrev pub firstToFree : ℕ → ℕ → ℕ
-firstToFree worth exposure = cond (ltb worth exposure) 0 64
-
--- what the free gives back of the security i, and what the position, worth so much in all, loses by it
-abbrev pub parcelBack : List ℕ → List ℕ → ℕ → ℕ → ℕ → Parcel
-parcelBack columns position i worth exposure =
-    let s = securityAt columns i in
-    let n = getD position i 0 in
-    parcelToSpare s n (worth - value (s .pricing) n) exposure

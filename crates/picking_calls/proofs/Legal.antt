@@ -12,8 +12,9 @@ use Rattle.baskets.specs.Fresh.{eligibleBy, EligibilityFor}
 use Rattle.baskets.specs.declared.Basket.{Basket}
 use Rattle.baskets.specs.declared.Eligibility.{Eligibility}
 use Rattle.calendar.specs.Target.{openDay}
-use Rattle.securities.specs.Position.{nominalsOf, Within, legalNominals}
-use Rattle.securities.specs.Security.{AllInBounds, legalSecurities, legalQuotes}
+use Rattle.securities.specs.Position.{nominalsOf, legalNominals}
+use Rattle.securities.specs.Security.{legalSecurities, legalQuotes}
+use Rattle.securities.specs.Bounds.{AllInBounds, Within}
 use Rattle.securities.proofs.Legal.{all-in-bounds, all-within}
 use Rattle.picking.specs.Free.{freed}
 use Rattle.picking.specs.Pick.{picked}

@@ -5,6 +5,7 @@ use mathlib.Core.List.{List}
 use Prim.Native.Nat.{ℕ}
 use lib.Dec.{leb, eqb}
 use lib.ListN.{replicate}
+use Rattle.limits.specs.Limits.{greatestExposure}
 use Rattle.answers.specs.Answers.{outOfRange, badDay}
 use Rattle.baskets.specs.Basket.{eligible}
 use Rattle.baskets.specs.declared.Basket.{Basket}
@@ -26,7 +27,7 @@ freeRefused c = record { code = c; freed = record { nominals = replicate 64 0; l
 -- the numbers that a pick is given are in their ranges: nominals, securities, a map that is not 0, an age of one byte, an amount up to 10^13
 unfoldable pub legalPick : List ℕ → List ℕ → Basket → ℕ → Bool
 legalPick columns account b amount =
-    legalNominals account && (legalSecurities columns && (not (eqb (b .map) 0) && (leb (b .oldest) 255 && leb amount 10000000000000)))
+    legalNominals account && (legalSecurities columns && (not (eqb (b .map) 0) && (leb (b .oldest) 255 && leb amount greatestExposure)))
 
 -- "any day named, quote days too, not open ..; quote after today"
 unfoldable pub legalDays : List ℕ → ℕ → Bool
@@ -41,7 +42,7 @@ pickedFor columns account b today amount =
 
 -- the numbers that a free is given are in their ranges
 unfoldable pub legalFree : List ℕ → List ℕ → ℕ → Bool
-legalFree columns position exposure = legalNominals position && (legalSecurities columns && leb exposure 10000000000000)
+legalFree columns position exposure = legalNominals position && (legalSecurities columns && leb exposure greatestExposure)
 
 -- a free down to an exposure, for any numbers. It values at the last price whatever its age, so it reads no quote day
 unfoldable pub freedDown : List ℕ → List ℕ → ℕ → free.FreeAnswer

@@ -4,6 +4,7 @@ ghost use Rattle.picking_calls.specs.Answers.{pickedFor, freedDown, lega
 use answers::BAD_DAY;
 use answers::OUT_OF_RANGE;
 use baskets::Basket;
+use limits::GREATEST_EXPOSURE;
 use picking::Freed;
 use picking::Outcome;
 
@@ -36,7 +37,7 @@ fn is_legal_pick(account: &[u64; 64], columns: &[u64; 256], basket: Basket, amou
     if 255 < basket.oldest {
         return false;
     }
-    amount <= 10000000000000
+    amount <= GREATEST_EXPOSURE
 }
 
 // Are the days of a pick open, and no quote after today?
@@ -59,7 +60,7 @@ fn is_legal_free(position: &[u64; 64], columns: &[u64; 256], exposure: u64) -> b
     if !securities::are_legal(columns) {
         return false;
     }
-    exposure <= 10000000000000
+    exposure <= GREATEST_EXPOSURE
 }
 
 fn refuse_pick(code: u64) -> PickAnswer

@@ -19,13 +19,13 @@ use Rattle.rules.specs.Requests.{isUsed, isInUse}
 use Rattle.rules.specs.Sound.{sound}
 use Rattle.rules.specs.Stock.{participantSetUp, securitySetUp, basketSetUp}
 use Rattle.facts.proofs.Searches.{least-le}
-use Rattle.damage.specs.Damage.{bookCode}
+use Rattle.damage.specs.Damage.{bookDamage}
 use Rattle.damage.proofs.Damage.{passes, damaged-code, passed-code}
 use Rattle.reads.specs.Entries.{nominalCode, nominalAnswer, requestNumber}
 use Rattle.reads.proofs.Returns.{row-in}
 
 -- what a book without 1 and 2 is
-module _ (b : List ℕ) {x : ℕ} (e : x ≡ bookCode b false) (z : x ≡ 0) where
+module _ (b : List ℕ) {x : ℕ} (e : x ≡ bookDamage b false) (z : x ≡ 0) where
   pub accepted-length : length b ≡ bookLength
   accepted-length = passes b false e z .long
 
@@ -45,11 +45,11 @@ module _ (b : List ℕ) (q : Read) where
   refused : {c : ℕ} {zeros : List ℕ} → readCode b q ≡ c → (c ≡ 0 → ⊥) → zeros ≡ replicate (length (readValues (state b) q)) 0 → c ∷ zeros ≡ readAnswer b q
   refused {c} h n k = rw k (rw (ne-eqb c 0 n) at (by-code h))
 
-  pub damaged : {x : ℕ} {zeros : List ℕ} → x ≡ bookCode b false → (x ≡ 0 → ⊥) → zeros ≡ replicate (length (readValues (state b) q)) 0 → x ∷ zeros ≡ readAnswer b q
+  pub damaged : {x : ℕ} {zeros : List ℕ} → x ≡ bookDamage b false → (x ≡ 0 → ⊥) → zeros ≡ replicate (length (readValues (state b) q)) 0 → x ∷ zeros ≡ readAnswer b q
   unfolding readCode
   damaged e n k = refused (damaged-code b false (lowest (readRules (state b) q)) e n) n k
 
-  module _ {x : ℕ} (e : x ≡ bookCode b false) (z : x ≡ 0) {c : ℕ} (g : c ≡ lowest (readRules (state b) q)) where
+  module _ {x : ℕ} (e : x ≡ bookDamage b false) (z : x ≡ 0) {c : ℕ} (g : c ≡ lowest (readRules (state b) q)) where
     code-is : readCode b q ≡ c
     unfolding readCode
     code-is = passed-code b false (lowest (readRules (state b) q)) (passes b false e z) ∙ sym g
@@ -70,7 +70,7 @@ by-row false true t v e = rw e
 by-row false false t v e = rw e
 
 -- a sound one
-module _ (b : List ℕ) {x : ℕ} (e : x ≡ bookCode b false) (z : x ≡ 0) {c : ℕ} where
+module _ (b : List ℕ) {x : ℕ} (e : x ≡ bookDamage b false) (z : x ≡ 0) {c : ℕ} where
   nominal-answer : (q : Read) (f t y i : ℕ) (u : Bool) {v : List ℕ} → readRules (state b) q ≡ nominalRules (state b) t y u i → readValues (state b) q ≡ state b f (64 * y + i) ∷ []
       → c ≡ lowest (rowRules t y u) → v ≡ nominalAnswer (state b) c f y i → v ≡ readAnswer b q
   nominal-answer q f t y i u r w g h =
@@ -100,7 +100,7 @@ module _ (b : List ℕ) {x : ℕ} (e : x ≡ bookCode b false) (z : x ≡ 0) {c 
 pub row-near : (s : State) (n : ℕ) {i : ℕ} → i ≡ rowOf s n → (i ≡ 256 → ⊥) → i < 256
 row-near s n e m = omega (arith, least-le (λ i. isUsed s i && eqb (s numbers i) n) 256 0)
 
-module _ (b : List ℕ) (n : ℕ) {x i : ℕ} (e : x ≡ bookCode b false) (z : x ≡ 0) (f : i ≡ rowOf (state b) n) where
+module _ (b : List ℕ) (n : ℕ) {x i : ℕ} (e : x ≡ bookDamage b false) (z : x ≡ 0) (f : i ≡ rowOf (state b) n) where
   pub request-refused : i ≡ 256 → 5 ∷ 0 ∷ 0 ∷ 0 ∷ 0 ∷ 0 ∷ 0 ∷ 0 ∷ 0 ∷ 0 ∷ 0 ∷ 0 ∷ 0 ∷ 0 ∷ 0 ∷ [] ≡ readAnswer b (request n)
   request-refused h = read-refused b (request n) e z {c = 5} (rw (sym f ∙ h)) (λ w. omega arith) refl
 

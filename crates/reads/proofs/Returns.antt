@@ -21,7 +21,7 @@ use Rattle.rules.specs.Outcome.{rule, lowest}
 use Rattle.rules.specs.Reads.{rowOf, partnerNumber}
 use Rattle.rules.specs.Requests.{isUsed, isPaired}
 use Rattle.rules.specs.Sound.{sound}
-use Rattle.facts.proofs.Facts.{sound-facts}
+use Rattle.facts.proofs.Written.{sound-facts}
 use Rattle.facts.proofs.Rows.{used-paired, unused-blank}
 use Rattle.reads.specs.Entries.{nominalAnswer, requestNumber}
 

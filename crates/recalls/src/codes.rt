@@ -11,9 +11,10 @@ use book::layout::IN_USE;
 use book::layout::LOTS;
 use book::layout::MODES;
 use book::layout::POSITIONS;
+use record_kinds::Fields;
 
 // 4 for a nominal that is not in whole lots, 5 for a giver or a security not set up, else 0. A security not set up has no lots: 5.
-pub fn names_code(book: &[u8], fields: &[u64; 8]) -> u64
+pub fn names_code(book: &[u8], fields: &Fields) -> u64
     requires { ⌜ (length (now book) ≡ bookLength) × (areLegal 11 (now fields) ≡ true) ⌝ }
     ensures { λ r. ⌜ r ≡ namesCode (state (now (book .entry))) (now (fields .entry)) ⌝ }
 {
@@ -31,7 +32,7 @@ pub fn names_code(book: &[u8], fields: &[u64; 8]) -> u64
 }
 
 // 12 where the exposure is not used or not the giver's, 10 where it holds less than the nominal, else 0.
-pub fn holds_code(book: &[u8], fields: &[u64; 8]) -> u64
+pub fn holds_code(book: &[u8], fields: &Fields) -> u64
     requires { ⌜ (length (now book) ≡ bookLength) × (areLegal 11 (now fields) ≡ true) ⌝ }
     ensures { λ r. ⌜ r ≡ holdsCode (state (now (book .entry))) (now (fields .entry)) ⌝ }
 {

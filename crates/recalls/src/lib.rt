@@ -10,12 +10,13 @@ ghost use Rattle.rules.specs.Marking.{recall};
 ghost use Rattle.rules.specs.Outcome.{lowest};
 ghost use Rattle.rules.specs.Sound.{sound};
 ghost use Rattle.totals.specs.Totals.{totalsOf};
+use record_kinds::Fields;
 use totals::Totals;
 
 mod codes;
 
 // 11: the code of a recall, found on copies of one account and one position.
-pub fn recall_code(book: &[u8], fields: &[u64; 8]) -> u64
+pub fn recall_code(book: &[u8], fields: &Fields) -> u64
     requires { ⌜ (length (now book) ≡ bookLength) × (areLegal 11 (now fields) ≡ true) × (sound (state (now book)) ≡ true) ⌝ }
     ensures { λ r. ⌜ r ≡ lowest (recallRules (state (now (book .entry))) (now (fields .entry))) ⌝ }
 {
@@ -35,7 +36,7 @@ pub fn recall_code(book: &[u8], fields: &[u64; 8]) -> u64
 }
 
 // 11: the recall of an accepted record: the nominal goes back, the substitutes come in.
-pub fn recall(book: &mut [u8], fields: &[u64; 8]) -> Totals
+pub fn recall(book: &mut [u8], fields: &Fields) -> Totals
     requires { ⌜ (length (now book) ≡ bookLength) × (areLegal 11 (now fields) ≡ true) × (sound (state (now book)) ≡ true) × (lowest (recallRules (state (now book)) (now fields)) ≡ 0) ⌝ }
     ensures { λ r. ⌜ (r ≡ totalsOf (recall (state (now (book .entry))) (now (fields .entry)))) × (state (now (book .exit)) ≡ recall (state (now (book .entry))) (now (fields .entry)) .state) ⌝ }
 {

@@ -1,10 +1,25 @@
-// Document 01's table of records. Each kind has eight places; those past its last field are empty.
+// Document 01's table of records. Each kind has as many places as the longest; those past its last field are empty.
 // specs/Kinds.antt has the same table for the reader of the promises; the proofs of field_type and types_of compare the two.
 // Each is a match: the compiler keeps it as a table of numbers, while it would build a constant array anew at each use.
 ghost use mathlib.Core.Path.{_≡_};
 ghost use mathlib.Core.List.{map};
 ghost use Prim.Native.Nat.{_<_};
-ghost use Rattle.record_kinds.specs.Kinds.{fieldOf, lengthOf, typed, row};
+ghost use Rattle.record_kinds.specs.Kinds.{places, fieldOf, lengthOf};
+ghost use Rattle.record_kinds.specs.Typed.{kindCount, typed, row};
+use limits::GREATEST_AMOUNT;
+use limits::GREATEST_HAIRCUT;
+use limits::GREATEST_LOT;
+use limits::GREATEST_NOMINAL;
+use limits::GREATEST_PRICE;
+use limits::GREATEST_TOLERANCE;
+
+// The kinds, from 0.
+pub const KINDS: usize = 13;
+
+// A record's numbers: those of its kind's fields in order, then zeros.
+pub const PLACES: usize = 8;
+
+pub type Fields = [u64; PLACES];
 
 // A field: its bytes, the least and the greatest number that it may hold.
 pub struct Field {
@@ -95,32 +110,32 @@ fn field_type(t: FieldType) -> Field
         FieldType::Nominal => Field {
             bytes: 4,
             least: 1,
-            greatest: 500000000,
+            greatest: GREATEST_NOMINAL,
         },
         FieldType::Amount => Field {
             bytes: 8,
             least: 1,
-            greatest: 1000000000000,
+            greatest: GREATEST_AMOUNT,
         },
         FieldType::Tolerance => Field {
             bytes: 4,
             least: 1,
-            greatest: 100000000,
+            greatest: GREATEST_TOLERANCE,
         },
         FieldType::Lot => Field {
             bytes: 4,
             least: 1,
-            greatest: 1000000,
+            greatest: GREATEST_LOT,
         },
         FieldType::Price => Field {
             bytes: 4,
             least: 1,
-            greatest: 3000000,
+            greatest: GREATEST_PRICE,
         },
         FieldType::Haircut => Field {
             bytes: 2,
             least: 0,
-            greatest: 9999,
+            greatest: GREATEST_HAIRCUT,
         },
         FieldType::Mode => Field {
             bytes: 1,
@@ -145,9 +160,9 @@ fn field_type(t: FieldType) -> Field
     }
 }
 
-// The types of the eight places of a kind.
-fn types_of(k: usize) -> [FieldType; 8]
-    requires { ⌜ k < 13 ⌝ }
+// The types of the places of a kind.
+fn types_of(k: usize) -> [FieldType; PLACES]
+    requires { ⌜ k < kindCount ⌝ }
     ensures { λ r. ⌜ map typed r ≡ row k ⌝ }
 {
     match k {
@@ -251,9 +266,9 @@ fn types_of(k: usize) -> [FieldType; 8]
             FieldType::Empty,
         ],
         // settle
-        9 => [FieldType::Empty; 8],
+        9 => [FieldType::Empty; PLACES],
         // mark
-        10 => [FieldType::Empty; 8],
+        10 => [FieldType::Empty; PLACES],
         // recall: giver, exposure, security, nominal
         11 => [
             FieldType::Participant,
@@ -266,13 +281,13 @@ fn types_of(k: usize) -> [FieldType; 8]
             FieldType::Empty,
         ],
         // next day
-        _ => [FieldType::Empty; 8],
+        _ => [FieldType::Empty; PLACES],
     }
 }
 
 // The field j of the kind k.
 pub fn field_of(k: usize, j: usize) -> Field
-    requires { ⌜ (k < 13) × (j < 8) ⌝ }
+    requires { ⌜ (k < kindCount) × (j < places) ⌝ }
     ensures { λ r. ⌜ r ≡ fieldOf k j ⌝ }
 {
     let types = types_of(k);
@@ -282,7 +297,7 @@ pub fn field_of(k: usize, j: usize) -> Field
 
 // The bytes of a record of a kind, its kind's byte included: each length is proved to be that of the kind's fields.
 pub fn length_of(k: usize) -> usize
-    requires { ⌜ k < 13 ⌝ }
+    requires { ⌜ k < kindCount ⌝ }
     ensures { λ r. ⌜ r ≡ lengthOf k ⌝ }
 {
     match k {

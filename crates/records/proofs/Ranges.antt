@@ -1,14 +1,15 @@
 -- The tests of ranges: what each way out of them shows.
 -- Assumes nothing.
 use mathlib.Core.Path.{_≡_, refl}
-use mathlib.Core.Bool.{Bool, false}
+use mathlib.Core.Bool.{Bool, true, false, cond}
 use mathlib.Core.List.{List}
 use Prim.Native.Nat.{ℕ, _≤_, _<_}
 use lib.Dec.{leb}
 use lib.ListN.{getD}
 use borrow.Author.Tests.{le-leb, lt-leb}
+use Rattle.answers.specs.Answers.{outOfRange}
 use Rattle.laws.proofs.Least.{Rest}
-use Rattle.record_kinds.specs.Kinds.{fieldOf, inRange}
+use Rattle.record_kinds.specs.Kinds.{places, fieldOf, inRange}
 use Rattle.records.specs.Writing.{areLegal}
 use Rattle.record_kinds.specs.declared.Field.{Field}
 
@@ -24,5 +25,13 @@ abbrev pub legalAt : ℕ → List ℕ → ℕ → Bool
 legalAt k fields j = inRange k j (getD fields j 0)
 
 -- all are still to be tested
-pub ranges-first : (k : ℕ) (fields : List ℕ) → Rest (legalAt k fields) 8 0 (areLegal k fields)
+pub ranges-first : (k : ℕ) (fields : List ℕ) → Rest (legalAt k fields) places 0 (areLegal k fields)
 ranges-first k fields = record { decides = refl }
+
+-- the code of each outcome
+module _ (k : ℕ) (fields : List ℕ) {t : Bool} (e : t ≡ areLegal k fields) where
+  pub code-legal : t ≡ true → 0 ≡ cond (areLegal k fields) 0 outOfRange
+  code-legal h = rw (← e, h)
+
+  pub code-illegal : t ≡ false → outOfRange ≡ cond (areLegal k fields) 0 outOfRange
+  code-illegal h = rw (← e, h)

@@ -8,23 +8,24 @@ use native.Mathlib.Omega.{arith}
 use lib.Dec.{leb, eqb}
 use lib.ListN.{length, getD}
 use lib.Seq.{ext-getD, take-all}
-use borrow.Author.Tests.{ltb-true, leb-true, eqb-true, not-false}
+use borrow.Author.Tests.{leb-true, eqb-true, not-false}
 use Rattle.answers.specs.Answers.{malformed, outOfRange}
 use Rattle.laws.specs.Filled.{filled}
 use Rattle.laws.proofs.Cases.{and-right, or-left, or-right}
 use Rattle.laws.proofs.Filled.{filled-length, filled-at}
 use Rattle.laws.proofs.Least.{all-at}
-use Rattle.record_kinds.specs.Kinds.{known, fieldOf, widthOf, lengthOf, inRange, inRanges}
-use Rattle.records.specs.Reading.{read, taken, refused, fieldIn, isMalformed}
+use Rattle.record_kinds.specs.Kinds.{places, known, fieldOf, fieldBytes, lengthOf, inRange, inRanges}
+use Rattle.record_kinds.specs.Typed.{kindCount}
+use Rattle.records.specs.Reading.{read, taken, refusedReading, fieldIn, isMalformed}
 use Rattle.records.specs.RoundTrip.{ReadsBack, WritesBack}
-use Rattle.records.specs.Writing.{areLegal, image, misfits, writeCode, written}
+use Rattle.records.specs.Writing.{areLegal, recordBytes, misfits, writeCode, written}
 use Rattle.records.specs.declared.Reading as declared
-use Rattle.record_kinds.proofs.Fields.{greatest-fits}
+use Rattle.record_kinds.proofs.Fields.{known-below, greatest-fits}
 use Rattle.records.proofs.Images.{image-length, image-kind, image-field, image-back}
 use Rattle.records.proofs.Returns.{legal-filled, read-legal, part-filled, write-legal}
 
 -- a number in its range has room in its field
-in-range-fits : (k j x : ℕ) → inRange k j x ≡ true → x < 256 ^ widthOf k j
+in-range-fits : (k j x : ℕ) → inRange k j x ≡ true → x < 256 ^ fieldBytes k j
 in-range-fits k j x h =
     let top = leb-true x (fieldOf k j .greatest) (and-right (leb (fieldOf k j .least) x) (leb x (fieldOf k j .greatest)) h) in
     omega (arith, greatest-fits k j)
@@ -41,25 +42,25 @@ module _ (k : ℕ) (fields part : List ℕ) (code : writeCode k fields part ≡ 
   unfolding writeCode
   accepted = passed (λ c. c) malformed 0 outOfRange (misfits k part) (areLegal k fields) (λ z. omega arith) (λ z. omega arith) code
 
-  kind-known : k < 13
+  below : k < kindCount
   unfolding misfits
-  kind-known = ltb-true k 13 (not-false (known k) (or-left (not (known k)) (not (eqb (length part) (lengthOf k))) (accepted .0)))
+  below = known-below k (not-false (known k) (or-left (not (known k)) (not (eqb (length part) (lengthOf k))) (accepted .0)))
 
   -- each number has room in its field
-  roomy : (j : ℕ) → j < 8 → getD fields j 0 < 256 ^ widthOf k j
-  roomy j l = in-range-fits k j (getD fields j 0) (all-at (λ i. inRange k i (getD fields i 0)) 8 0 (accepted .1) j (omega arith) (omega arith))
+  roomy : (j : ℕ) → j < places → getD fields j 0 < 256 ^ fieldBytes k j
+  roomy j l = in-range-fits k j (getD fields j 0) (all-at (λ i. inRange k i (getD fields i 0)) places 0 (accepted .1) j (omega arith) (omega arith))
 
 pub reads-back : ReadsBack
-reads-back k fields part eight code =
-    let b = image k fields in
+reads-back k fields part long code =
+    let b = recordBytes k fields in
     let kind = image-kind k fields in
-    let f : fields ≡ filled (fieldIn b k) 8 8 =
-    ext-getD 0 fields (filled (fieldIn b k) 8 8) (eight ∙ sym (filled-length (fieldIn b k) 8 8))
-    (λ j l. sym (filled-at (fieldIn b k) 8 8 j (omega arith) (omega arith) ∙ image-field k fields j (omega arith) (roomy k fields part code j (omega arith)))) in
+    let f : fields ≡ filled (fieldIn b k) places places =
+    ext-getD 0 fields (filled (fieldIn b k) places places) (long ∙ sym (filled-length (fieldIn b k) places places))
+    (λ j l. sym (filled-at (fieldIn b k) places places j (omega arith) (omega arith) ∙ image-field k fields j (omega arith) (roomy k fields part code j (omega arith)))) in
     let same : taken (getD b 0 0) fields ≡ read b =
-    read-legal b {n = lengthOf k} {t = true} (rw kind (kind-known k fields part code)) (rw kind) (image-length k fields 8)
+    read-legal b {n = lengthOf k} {t = true} (rw kind (below k fields part code)) (rw kind) (image-length k fields places)
     (rw kind f) (rw kind (sym (accepted k fields part code .1))) refl in
-    ap read (sym (part-filled k fields part (sym code) refl)) ∙ sym same ∙ ap (λ (n : ℕ). taken n fields) kind
+    ap read (sym (part-filled k fields part refl (sym code) refl)) ∙ sym same ∙ ap (λ (n : ℕ). taken n fields) kind
 
 -- What the reader takes.
 module _ (b : List ℕ) (code : read b .code ≡ 0) where
@@ -67,40 +68,40 @@ module _ (b : List ℕ) (code : read b .code ≡ 0) where
   kind = getD b 0 0
 
   abbrev numbers : List ℕ
-  numbers = filled (fieldIn b kind) 8 8
+  numbers = filled (fieldIn b kind) places places
 
   accepted-read : (isMalformed b ≡ false) × (inRanges kind (fieldIn b kind) ≡ true)
   unfolding read
-  accepted-read = passed (λ (r : declared.Reading). r .code) (refused malformed) (taken kind numbers) (refused outOfRange) (isMalformed b) (inRanges kind (fieldIn b kind)) (λ z. omega arith) (λ z. omega arith) code
+  accepted-read = passed (λ (r : declared.Reading). r .code) (refusedReading malformed) (taken kind numbers) (refusedReading outOfRange) (isMalformed b) (inRanges kind (fieldIn b kind)) (λ z. omega arith) (λ z. omega arith) code
 
-  formed : (kind < 13) × (length b ≡ lengthOf kind)
+  pub formed : (kind < kindCount) × (length b ≡ lengthOf kind)
   unfolding isMalformed
   formed =
       let fit = not (eqb (length b) (lengthOf kind)) in
       let rest = or-right (eqb (length b) 0) (not (known kind) || fit) (accepted-read .0) in (
-        ltb-true kind 13 (not-false (known kind) (or-left (not (known kind)) fit rest)),
+        known-below kind (not-false (known kind) (or-left (not (known kind)) fit rest)),
         eqb-true (length b) (lengthOf kind) (not-false (eqb (length b) (lengthOf kind)) (or-right (not (known kind)) fit rest)),
       )
 
-  numbers-legal : true ≡ areLegal kind numbers
+  pub numbers-legal : true ≡ areLegal kind numbers
   numbers-legal = sym (legal-filled kind (fieldIn b kind) ∙ accepted-read .1)
 
-  is-taken : taken kind numbers ≡ read b
+  pub is-taken : taken kind numbers ≡ read b
   is-taken = read-legal b {n = lengthOf kind} {t = true} (formed .0) refl (formed .1) refl numbers-legal refl
 
   -- its numbers make its bytes
-  back : ((i : ℕ) → getD b i 0 < 256) → image kind numbers ≡ b
+  back : ((i : ℕ) → getD b i 0 < 256) → recordBytes kind numbers ≡ b
   back small =
-      image-back b numbers small (formed .1) (λ j l. filled-at (fieldIn b kind) 8 8 j (omega arith) l) 8 (omega arith)
+      image-back b numbers small (formed .1) (λ j l. filled-at (fieldIn b kind) places places j (omega arith) l) places (omega arith)
       ∙ take-all (lengthOf kind) b (omega (arith, formed .1))
 
 pub writes-back : WritesBack
 writes-back b part small code long =
     let k = getD b 0 0 in
-    let fields = filled (fieldIn b k) 8 8 in
+    let fields = filled (fieldIn b k) places places in
     let same = is-taken b code in
-    let ok : 0 ≡ writeCode k fields part = write-legal k fields part {n = lengthOf k} {t = true} (formed b code .0) refl (long ∙ formed b code .1) (numbers-legal b code) refl in
+    let ok : 0 ≡ writeCode k fields part = write-legal k fields part (formed b code .0) (long ∙ formed b code .1) (sym (numbers-legal b code)) in
     record {
       accepted = ap (λ (r : declared.Reading). writeCode (r .kind) (r .fields) part) (sym same) ∙ sym ok;
-      bytes = ap (λ (r : declared.Reading). written (r .kind) (r .fields) part) (sym same) ∙ sym (part-filled k fields part ok refl) ∙ back b code small;
+      bytes = ap (λ (r : declared.Reading). written (r .kind) (r .fields) part) (sym same) ∙ sym (part-filled k fields part refl ok refl) ∙ back b code small;
     }

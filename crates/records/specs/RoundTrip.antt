@@ -4,12 +4,13 @@ use mathlib.Core.Path.{_≡_}
 use mathlib.Core.List.{List}
 use Prim.Native.Nat.{ℕ, _<_}
 use lib.ListN.{length, getD}
+use Rattle.record_kinds.specs.Kinds.{places}
 use Rattle.records.specs.Reading.{read, taken}
 use Rattle.records.specs.Writing.{writeCode, written}
 
 -- whatever the writer accepts reads back as it was written, whichever part was lent
 abbrev pub ReadsBack : Type 0
-ReadsBack = (k : ℕ) (fields part : List ℕ) → length fields ≡ 8 → writeCode k fields part ≡ 0 → read (written k fields part) ≡ taken k fields
+ReadsBack = (k : ℕ) (fields part : List ℕ) → length fields ≡ places → writeCode k fields part ≡ 0 → read (written k fields part) ≡ taken k fields
 
 -- a record that the reader takes is accepted by the writer, for any part of its length, and becomes its bytes
 pub record WrittenBack (b part : List ℕ) : Type 0 where

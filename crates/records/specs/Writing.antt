@@ -6,19 +6,19 @@ use Prim.Native.Nat.{ℕ, zero, suc}
 use lib.Dec.{eqb}
 use lib.ListN.{length, getD}
 use Rattle.answers.specs.Answers.{malformed, outOfRange}
-use Rattle.record_kinds.specs.Kinds.{known, widthOf, lengthOf, inRanges}
+use Rattle.record_kinds.specs.Kinds.{places, known, fieldBytes, lengthOf, inRanges}
 use Rattle.laws.specs.Numbers.{bytesOf}
 
 -- the bytes of a record up to its field j: one byte of kind, then the fields in order
-unfoldable pub imageTo : ℕ → List ℕ → ℕ → List ℕ
-imageTo k fields zero = k ∷ []
-imageTo k fields (suc j) = imageTo k fields j ++ bytesOf (widthOf k j) (getD fields j 0)
+unfoldable pub recordBytesTo : ℕ → List ℕ → ℕ → List ℕ
+recordBytesTo k fields zero = k ∷ []
+recordBytesTo k fields (suc j) = recordBytesTo k fields j ++ bytesOf (fieldBytes k j) (getD fields j 0)
 
 -- the bytes of a record
-abbrev pub image : ℕ → List ℕ → List ℕ
-image k fields = imageTo k fields 8
+abbrev pub recordBytes : ℕ → List ℕ → List ℕ
+recordBytes k fields = recordBytesTo k fields places
 
--- the numbers of a record's eight places are in their ranges
+-- a record's numbers are in the ranges of its kind's fields, those past the last field 0
 abbrev pub areLegal : ℕ → List ℕ → Bool
 areLegal k fields = inRanges k (λ j. getD fields j 0)
 
@@ -32,4 +32,4 @@ writeCode k fields part = cond (misfits k part) malformed (cond (areLegal k fiel
 
 -- the lent part after the call
 unfoldable pub written : ℕ → List ℕ → List ℕ → List ℕ
-written k fields part = cond (eqb (writeCode k fields part) 0) (image k fields) part
+written k fields part = cond (eqb (writeCode k fields part) 0) (recordBytes k fields) part

@@ -9,14 +9,14 @@ use lib.Dec.{eqb, ltb}
 use lib.ListN.{getD}
 use borrow.Author.Tests.{eq-eqb, ne-eqb, le-leb, lt-leb, lt-ltb, le-ltb, not-true, not-false}
 use Rattle.calendar.specs.Target.{openDay}
-use Rattle.book.specs.Layout.{today, nextNumber, modes, maps, inUse, exposureGivers, exposureTakers}
+use Rattle.book.specs.Layout.{today, nextNumber, modes, maps}
 use Rattle.book.specs.State.{State}
 use Rattle.rules.specs.Outcome.{Rule, lowest}
 use Rattle.rules.specs.Requests.{acceptsGiver, exposureWith, freeExposure}
 use Rattle.rules.specs.Requesting.{takerFollows, rowsNeeded, earliestEqual, pairsNow}
 use Rattle.facts.proofs.Rules.{stops, goes-on}
 use Rattle.request_search.specs.Rows.{rowsFree}
-use Rattle.request_codes.specs.Rules.{partyRules, basketNameRules, settlementRules, closingRules, takerRules, rowRules, exposureRules, fopNameRules, namesExposure}
+use Rattle.request_codes.specs.Rules.{partyRules, basketNameRules, settlementRules, closingRules, takerRules, rowRules, exposureRules, fopNameRules}
 
 -- 5: the parties
 module _ (s : State) (r : List ℕ) {x : ℕ} (xq : x ≡ s modes (getD r 1 0)) where
@@ -144,15 +144,3 @@ module _ (s : State) (r : List ℕ) {p : ℕ} (pq : p ≡ lowest (partyRules s r
 
       pub name-closing : {c : ℕ} → d ≡ 0 → c ≡ lowest (closingRules r) → c ≡ lowest (fopNameRules s r)
       name-closing dz cq = after-basket (goes-on (settlementRules s r) (closingRules r) refl dq dz cq)
-
--- 12: the exposure that a return names
-module _ (s : State) (r : List ℕ) {u : ℕ} (uq : u ≡ s inUse (getD r 3 0)) where
-  pub names-unused : (u ≡ 1 → ⊥) → false ≡ namesExposure s r
-  names-unused h = rw (← uq, ne-eqb u 1 h)
-
-  module _ (used : u ≡ 1) {g : ℕ} (gq : g ≡ s exposureGivers (getD r 3 0)) where
-    pub names-other : (g ≡ getD r 1 0 → ⊥) → false ≡ namesExposure s r
-    names-other h = rw (← gq, ne-eqb g (getD r 1 0) h, and-false)
-
-    pub names-by-taker : {t : ℕ} → g ≡ getD r 1 0 → t ≡ s exposureTakers (getD r 3 0) → eqb t (getD r 2 0) ≡ namesExposure s r
-    names-by-taker h tq = rw (← uq, eq-eqb u 1 used, ← gq, eq-eqb g (getD r 1 0) h, ← tq)

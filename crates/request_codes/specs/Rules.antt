@@ -1,11 +1,11 @@
 -- The rules of a FOP and of a return in the groups that the code tests them in.
 -- Assumes nothing.
-use mathlib.Core.Bool.{Bool, not, _&&_, _||_}
+use mathlib.Core.Bool.{not, _&&_, _||_}
 use mathlib.Core.List.{List, [], _∷_, _++_}
 use Prim.Native.Nat.{ℕ}
 use lib.Dec.{eqb, leb, ltb}
 use Rattle.calendar.specs.Target.{openDay}
-use Rattle.book.specs.Layout.{today, inUse, exposureGivers, exposureTakers}
+use Rattle.book.specs.Layout.{today}
 use Rattle.book.specs.State.{State}
 use Rattle.rules.specs.Codes.{noParticipant, noBasket, dayNotOpen, giverIsTaker, takerNeedsNone, tooFewRows}
 use Rattle.rules.specs.Outcome.{Rule, rule}
@@ -42,8 +42,3 @@ rowRules s r = tooFewRows s r ∷ []
 -- 15
 abbrev pub exposureRules : State → List ℕ → List Rule
 exposureRules s r = rule (needsExposure s 6 r && eqb (freeExposure s) 64) 15 ∷ []
-
--- the exposure that a return's record names is used, with its giver and taker
-abbrev pub namesExposure : State → List ℕ → Bool
-namesExposure s r =
-    eqb (s inUse (basketOrExposureIn r)) 1 && (eqb (s exposureGivers (basketOrExposureIn r)) (giverIn r) && eqb (s exposureTakers (basketOrExposureIn r)) (takerIn r))

@@ -5,10 +5,11 @@ ghost use lib.ListN.{length};
 ghost use Rattle.book.specs.Layout.{bookLength};
 ghost use Rattle.book.specs.State.{state};
 ghost use Rattle.rules.specs.Outcome.{lowest};
+ghost use Rattle.rules.specs.Requests.{isExposureOf};
 ghost use Rattle.rules.specs.Requesting.{pairsNow, rowsNeeded};
-ghost use Rattle.rules.specs.Fields.{basketOrExposureIn};
+ghost use Rattle.rules.specs.Fields.{giverIn, takerIn, basketOrExposureIn};
 ghost use Rattle.request_search.specs.Ranges.{RequestIn};
-ghost use Rattle.request_codes.specs.Rules.{partyRules, basketNameRules, settlementRules, closingRules, takerRules, rowRules, exposureRules, fopNameRules, namesExposure};
+ghost use Rattle.request_codes.specs.Rules.{partyRules, basketNameRules, settlementRules, closingRules, takerRules, rowRules, exposureRules, fopNameRules};
 use book::layout::EXPOSURE_GIVERS;
 use book::layout::EXPOSURE_TAKERS;
 use book::layout::IN_USE;
@@ -16,9 +17,11 @@ use book::layout::MAPS;
 use book::layout::MODES;
 use book::layout::NEXT_NUMBER;
 use book::layout::TODAY;
+use limits::GREATEST_NEXT;
+use record_kinds::Fields;
 
 // 5 where the giver or the taker is not set up, else 0.
-pub fn party_code(book: &[u8], fields: &[u64; 8]) -> u64
+pub fn party_code(book: &[u8], fields: &Fields) -> u64
     requires { ⌜ (length (now book) ≡ bookLength) × RequestIn (now fields) ⌝ }
     ensures { λ r. ⌜ r ≡ lowest (partyRules (state (now (book .entry))) (now (fields .entry))) ⌝ }
 {
@@ -32,7 +35,7 @@ pub fn party_code(book: &[u8], fields: &[u64; 8]) -> u64
 }
 
 // 5 where a FOP's basket is not set up, else 0.
-fn basket_code(book: &[u8], fields: &[u64; 8]) -> u64
+fn basket_code(book: &[u8], fields: &Fields) -> u64
     requires { ⌜ (length (now book) ≡ bookLength) × (basketOrExposureIn (now fields) < 16) ⌝ }
     ensures { λ r. ⌜ r ≡ lowest (basketNameRules (state (now (book .entry))) (now (fields .entry))) ⌝ }
 {
@@ -44,7 +47,7 @@ fn basket_code(book: &[u8], fields: &[u64; 8]) -> u64
 }
 
 // 7 where the settlement day is not open or lies before today, else 0.
-pub fn settlement_code(book: &[u8], fields: &[u64; 8]) -> u64
+pub fn settlement_code(book: &[u8], fields: &Fields) -> u64
     requires { ⌜ length (now book) ≡ bookLength ⌝ }
     ensures { λ r. ⌜ r ≡ lowest (settlementRules (state (now (book .entry))) (now (fields .entry))) ⌝ }
 {
@@ -58,7 +61,7 @@ pub fn settlement_code(book: &[u8], fields: &[u64; 8]) -> u64
 }
 
 // 7 where a FOP has a closing day that is not open or does not lie after settlement, else 0.
-fn closing_code(fields: &[u64; 8]) -> u64
+fn closing_code(fields: &Fields) -> u64
     ensures { λ r. ⌜ r ≡ lowest (closingRules (now (fields .entry))) ⌝ }
 {
     if fields[6] == 0 {
@@ -74,7 +77,7 @@ fn closing_code(fields: &[u64; 8]) -> u64
 }
 
 // 8 where the giver is the taker; 9 for a taker's request where it accepts that giver automatically; else 0.
-pub fn taker_code(book: &[u8], fields: &[u64; 8]) -> u64
+pub fn taker_code(book: &[u8], fields: &Fields) -> u64
     requires { ⌜ (length (now book) ≡ bookLength) × RequestIn (now fields) ⌝ }
     ensures { λ r. ⌜ r ≡ lowest (takerRules (state (now (book .entry))) (now (fields .entry))) ⌝ }
 {
@@ -91,7 +94,7 @@ pub fn taker_code(book: &[u8], fields: &[u64; 8]) -> u64
 }
 
 // How many request rows the record needs.
-fn rows_needed(book: &[u8], fields: &[u64; 8]) -> u64
+fn rows_needed(book: &[u8], fields: &Fields) -> u64
     requires { ⌜ (length (now book) ≡ bookLength) × RequestIn (now fields) ⌝ }
     ensures { λ r. ⌜ (r ≡ rowsNeeded (state (now (book .entry))) (now (fields .entry))) × (r ≤ 2) ⌝ }
 {
@@ -103,7 +106,7 @@ fn rows_needed(book: &[u8], fields: &[u64; 8]) -> u64
 }
 
 // 14 where there are too few request rows, or numbers would go above 999,999,999; else 0.
-pub fn row_code(book: &[u8], fields: &[u64; 8]) -> u64
+pub fn row_code(book: &[u8], fields: &Fields) -> u64
     requires { ⌜ (length (now book) ≡ bookLength) × RequestIn (now fields) ⌝ }
     ensures { λ r. ⌜ r ≡ lowest (rowRules (state (now (book .entry))) (now (fields .entry))) ⌝ }
 {
@@ -111,14 +114,14 @@ pub fn row_code(book: &[u8], fields: &[u64; 8]) -> u64
     if request_search::free_rows(book) < needed {
         return 14;
     }
-    if 1000000000 - needed < book::get(book, NEXT_NUMBER, 0) {
+    if GREATEST_NEXT - needed < book::get(book, NEXT_NUMBER, 0) {
         return 14;
     }
     0
 }
 
 // Is a request paired at once?
-fn does_pair_now(book: &[u8], kind: u64, fields: &[u64; 8]) -> bool
+fn does_pair_now(book: &[u8], kind: u64, fields: &Fields) -> bool
     requires { ⌜ (length (now book) ≡ bookLength) × RequestIn (now fields) ⌝ }
     ensures { λ r. ⌜ r ≡ pairsNow (state (now (book .entry))) kind (now (fields .entry)) ⌝ }
 {
@@ -129,7 +132,7 @@ fn does_pair_now(book: &[u8], kind: u64, fields: &[u64; 8]) -> bool
 }
 
 // 15 where a FOP pairs, no exposure has its key and no exposure row is free; else 0. A free row, most often the case, is looked for first.
-pub fn exposure_code(book: &[u8], fields: &[u64; 8]) -> u64
+pub fn exposure_code(book: &[u8], fields: &Fields) -> u64
     requires { ⌜ (length (now book) ≡ bookLength) × RequestIn (now fields) ⌝ }
     ensures { λ r. ⌜ r ≡ lowest (exposureRules (state (now (book .entry))) (now (fields .entry))) ⌝ }
 {
@@ -146,7 +149,7 @@ pub fn exposure_code(book: &[u8], fields: &[u64; 8]) -> u64
 }
 
 // 5 or 7 by the names and days of a FOP, else 0.
-pub fn fop_name_code(book: &[u8], fields: &[u64; 8]) -> u64
+pub fn fop_name_code(book: &[u8], fields: &Fields) -> u64
     requires { ⌜ (length (now book) ≡ bookLength) × RequestIn (now fields) × (basketOrExposureIn (now fields) < 16) ⌝ }
     ensures { λ r. ⌜ r ≡ lowest (fopNameRules (state (now (book .entry))) (now (fields .entry))) ⌝ }
 {
@@ -166,9 +169,9 @@ pub fn fop_name_code(book: &[u8], fields: &[u64; 8]) -> u64
 }
 
 // Is the exposure that a return names used, with its giver and taker?
-pub fn names_exposure(book: &[u8], fields: &[u64; 8]) -> bool
+pub fn names_exposure(book: &[u8], fields: &Fields) -> bool
     requires { ⌜ (length (now book) ≡ bookLength) × RequestIn (now fields) ⌝ }
-    ensures { λ r. ⌜ r ≡ namesExposure (state (now (book .entry))) (now (fields .entry)) ⌝ }
+    ensures { λ r. ⌜ r ≡ isExposureOf (state (now (book .entry))) (giverIn (now (fields .entry))) (takerIn (now (fields .entry))) (basketOrExposureIn (now (fields .entry))) ⌝ }
 {
     let e = fields[3] as usize;
     if book::get(book, IN_USE, e) != 1 {

@@ -5,6 +5,7 @@ use mathlib.Core.Bool.{Bool, true, _&&_, cond}
 use mathlib.Core.List.{List}
 use Prim.Native.Nat.{ℕ, _+_, _≤_, _<_}
 use lib.Dec.{eqb}
+use Rattle.limits.specs.Limits.{greatestNext}
 use Rattle.book.specs.Layout.{nextNumber, numbers}
 use Rattle.book.specs.State.{State, put}
 use Rattle.rules.specs.Requests.{freeExposure, freeRow}
@@ -13,13 +14,13 @@ use Rattle.rules.specs.Requesting.{exposureOf, exposureGiven}
 -- a row and a number for one request
 pub record RoomForOne (s : State) : Type 0 where
   pub row : freeRow s < 256
-  pub number : s nextNumber 0 + 1 ≤ 1000000000
+  pub number : s nextNumber 0 + 1 ≤ greatestNext
 
 -- and for a request with its taker request
 pub record RoomForTwo (s : State) : Type 0 where
   pub first : freeRow s < 256
   pub second : freeRow (put s numbers (freeRow s) (s nextNumber 0)) < 256
-  pub number : s nextNumber 0 + 2 ≤ 1000000000
+  pub number : s nextNumber 0 + 2 ≤ greatestNext
 
 -- a FOP whose key no exposure has
 abbrev pub lacksExposure : State → ℕ → List ℕ → Bool

@@ -8,6 +8,7 @@ ghost use Rattle.book.specs.State.{state};
 ghost use Rattle.rules.specs.Requesting.{exposureGiven, withTaker, withEqual, waiting};
 ghost use Rattle.request_rows.specs.Rows.{EntryIn};
 ghost use Rattle.request_entry.specs.Entering.{RoomForOne, RoomForTwo, ExposureRoom, withExposure};
+use book::layout::EXPOSURE_AMOUNTS;
 use book::layout::EXPOSURE_BASKETS;
 use book::layout::EXPOSURE_CLOSINGS;
 use book::layout::EXPOSURE_GIVERS;
@@ -17,9 +18,10 @@ use book::layout::NEXT_NUMBER;
 use book::layout::NUMBERS;
 use book::layout::PAIR_PARTIALS;
 use book::layout::PARTNERS;
+use record_kinds::Fields;
 
 // Enters a request that waits for an equal one.
-pub fn enter_waiting(book: &mut [u8], kind: u64, fields: &[u64; 8])
+pub fn enter_waiting(book: &mut [u8], kind: u64, fields: &Fields)
     requires { ⌜ (length (now book) ≡ bookLength) × EntryIn kind (now fields) × RoomForOne (state (now book)) ⌝ }
     ensures { λ _. ⌜ state (now (book .exit)) ≡ waiting (state (now (book .entry))) kind (now (fields .entry)) ⌝ }
 {
@@ -30,7 +32,7 @@ pub fn enter_waiting(book: &mut [u8], kind: u64, fields: &[u64; 8])
 }
 
 // Enters a request and pairs it with the row j.
-pub fn enter_with_equal(book: &mut [u8], kind: u64, fields: &[u64; 8], j: usize)
+pub fn enter_with_equal(book: &mut [u8], kind: u64, fields: &Fields, j: usize)
     requires { ⌜ (length (now book) ≡ bookLength) × EntryIn kind (now fields) × RoomForOne (state (now book)) × (j < 256) ⌝ }
     ensures { λ _. ⌜ state (now (book .exit)) ≡ withEqual (state (now (book .entry))) kind (now (fields .entry)) j ⌝ }
 {
@@ -44,7 +46,7 @@ pub fn enter_with_equal(book: &mut [u8], kind: u64, fields: &[u64; 8], j: usize)
 }
 
 // Enters a giver's request and the taker request made for it, with the same reference, and pairs them.
-pub fn enter_with_taker(book: &mut [u8], kind: u64, fields: &[u64; 8])
+pub fn enter_with_taker(book: &mut [u8], kind: u64, fields: &Fields)
     requires { ⌜ (length (now book) ≡ bookLength) × EntryIn kind (now fields) × RoomForTwo (state (now book)) ⌝ }
     ensures { λ _. ⌜ state (now (book .exit)) ≡ withTaker (state (now (book .entry))) kind (now (fields .entry)) ⌝ }
 {
@@ -58,8 +60,8 @@ pub fn enter_with_taker(book: &mut [u8], kind: u64, fields: &[u64; 8])
     book::set(book, NEXT_NUMBER, 0, number + 2);
 }
 
-// Gives out the exposure row e, with the key of a FOP.
-fn give_exposure(book: &mut [u8], fields: &[u64; 8], e: usize)
+// Gives out the exposure row e, with the key of a FOP and the amount 0.
+fn give_exposure(book: &mut [u8], fields: &Fields, e: usize)
     requires { ⌜ (length (now book) ≡ bookLength) × EntryIn 6 (now fields) × (e < 64) ⌝ }
     ensures { λ _. ⌜ state (now (book .exit)) ≡ exposureGiven (state (now (book .entry))) (now (fields .entry)) e ⌝ }
 {
@@ -68,10 +70,11 @@ fn give_exposure(book: &mut [u8], fields: &[u64; 8], e: usize)
     book::set(book, EXPOSURE_TAKERS, e, fields[2]);
     book::set(book, EXPOSURE_BASKETS, e, fields[3]);
     book::set(book, EXPOSURE_CLOSINGS, e, fields[6]);
+    book::set(book, EXPOSURE_AMOUNTS, e, 0);
 }
 
 // A FOP pair belongs to the exposure with its key; where there is none yet, the lowest free row is given out.
-pub fn join_exposure(book: &mut [u8], kind: u64, fields: &[u64; 8])
+pub fn join_exposure(book: &mut [u8], kind: u64, fields: &Fields)
     requires { ⌜ (length (now book) ≡ bookLength) × EntryIn kind (now fields) × ExposureRoom (state (now book)) kind (now fields) ⌝ }
     ensures { λ _. ⌜ state (now (book .exit)) ≡ withExposure (state (now (book .entry))) kind (now (fields .entry)) ⌝ }
 {

@@ -17,7 +17,7 @@ use Rattle.record_kinds.specs.Kinds.{kinds}
 use Rattle.records.specs.Writing.{areLegal}
 use Rattle.rules.specs.Codes.{fopRules, returnRules}
 use Rattle.rules.specs.Outcome.{lowest}
-use Rattle.rules.specs.Requests.{freeExposure, openOrNone}
+use Rattle.rules.specs.Requests.{isExposureOf, freeExposure, openOrNone}
 use Rattle.rules.specs.Requesting.{rowsNeeded, needsExposure}
 use Rattle.rules.specs.Fields.{giverIn, takerIn, basketOrExposureIn, amountIn, settlementIn, closingIn}
 use Rattle.rules.specs.Stock.{participantSetUp, basketSetUp}
@@ -26,42 +26,14 @@ use Rattle.facts.proofs.Rows.{Parties}
 use Rattle.facts.proofs.Rules.{none-applies}
 use Rattle.facts.proofs.Truth.{split}
 use Rattle.request_laws.proofs.Entries.{FopIn, ReturnIn, fopIn, returnIn, RequestIn}
-use Rattle.request_laws.proofs.Touching.{Small}
-use Rattle.request_laws.proofs.EntryCases.{Room}
-
-module _ (r : List ℕ) where
-  pub fop-small : areLegal 6 r ≡ true → Small 6 r
-  unfolding kinds
-  fop-small h = record {
-    kind = omega arith;
-    giver = omega (arith, field-in 6 1 r h (omega arith) .1);
-    taker = omega (arith, field-in 6 2 r h (omega arith) .1);
-    object = omega (arith, field-in 6 3 r h (omega arith) .1);
-    amount = omega (arith, field-in 6 4 r h (omega arith) .1);
-    settlement = omega (arith, field-in 6 5 r h (omega arith) .1);
-    closing = omega (arith, field-in 6 6 r h (omega arith) .1);
-    reference = omega (arith, field-in 6 7 r h (omega arith) .1);
-  }
-
-  pub return-small : areLegal 7 r ≡ true → Small 7 r
-  unfolding kinds
-  return-small h = record {
-    kind = omega arith;
-    giver = omega (arith, field-in 7 1 r h (omega arith) .1);
-    taker = omega (arith, field-in 7 2 r h (omega arith) .1);
-    object = omega (arith, field-in 7 3 r h (omega arith) .1);
-    amount = omega (arith, field-in 7 4 r h (omega arith) .1);
-    settlement = omega (arith, field-in 7 5 r h (omega arith) .1);
-    closing = omega arith;
-    reference = omega (arith, field-in 7 6 r h (omega arith) .1);
-  }
+use Rattle.request_laws.proofs.EntryCases.{Enough}
 
 module _ (s : State) (r : List ℕ) where
   abbrev free : ℕ
   free = count (λ i. eqb (s numbers i) 0) 256 0
 
-  room-of : (ltb free (rowsNeeded s r) || ltb 1000000000 (s nextNumber 0 + rowsNeeded s r)) ≡ false → Room s r
-  room-of h = record {
+  enough-of : (ltb free (rowsNeeded s r) || ltb 1000000000 (s nextNumber 0 + rowsNeeded s r)) ≡ false → Enough s r
+  enough-of h = record {
     rows = ltb-false free (rowsNeeded s r) (or-left (ltb free (rowsNeeded s r)) (ltb 1000000000 (s nextNumber 0 + rowsNeeded s r)) h);
     numbers = ltb-false 1000000000 (s nextNumber 0 + rowsNeeded s r) (or-right (ltb free (rowsNeeded s r)) (ltb 1000000000 (s nextNumber 0 + rowsNeeded s r)) h);
   }
@@ -108,11 +80,14 @@ module _ (s : State) (r : List ℕ) where
           amount-low = field-in 6 4 r legal (omega arith) .0;
           amount-high = field-in 6 4 r legal (omega arith) .1;
           settlement = not-false (openDay (settlementIn r)) (none .1 .1 .1 .1 .0);
+          settlement-small = omega (arith, field-in 6 5 r legal (omega arith) .1);
+          closing-small = omega (arith, field-in 6 6 r legal (omega arith) .1);
+          reference-small = omega (arith, field-in 6 7 r legal (omega arith) .1);
         }
 
-    pub fop-room : Room s r
+    pub fop-enough : Enough s r
     unfolding fopRules
-    fop-room = room-of (none-applies (fopRules s r) refl accepted .1 .1 .1 .1 .1 .1 .1 .1 .1 .0)
+    fop-enough = enough-of (none-applies (fopRules s r) refl accepted .1 .1 .1 .1 .1 .1 .1 .1 .1 .0)
 
     -- where it needs an exposure row, one is free
     pub fop-exposure : needsExposure s 6 r ≡ true → freeExposure s ≡ 64 → ⊥
@@ -125,8 +100,7 @@ module _ (s : State) (r : List ℕ) where
     return-names =
         let o = basketOrExposureIn r in
         let none = none-applies (returnRules s r) refl accepted in
-        let named = split (eqb (s inUse o) 1 ∷ eqb (s exposureGivers o) (giverIn r) ∷ eqb (s exposureTakers o) (takerIn r) ∷ [])
-        (not-false (eqb (s inUse o) 1 && (eqb (s exposureGivers o) (giverIn r) && eqb (s exposureTakers o) (takerIn r))) (none .1 .1 .1 .1 .1 .1 .0)) in
+        let named = split (eqb (s inUse o) 1 ∷ eqb (s exposureGivers o) (giverIn r) ∷ eqb (s exposureTakers o) (takerIn r) ∷ []) (not-false (isExposureOf s (giverIn r) (takerIn r) o) (none .1 .1 .1 .1 .1 .1 .0)) in
         record {
           exposure-below = omega (arith, field-in 7 3 r legal (omega arith) .1);
           exposure-used = eqb-true (s inUse o) 1 (named .0);
@@ -145,8 +119,11 @@ module _ (s : State) (r : List ℕ) where
           amount-low = field-in 7 4 r legal (omega arith) .0;
           amount-high = field-in 7 4 r legal (omega arith) .1;
           settlement = not-false (openDay (settlementIn r)) (none .1 .1 .0);
+          settlement-small = omega (arith, field-in 7 5 r legal (omega arith) .1);
+          closing-small = omega arith;
+          reference-small = omega (arith, field-in 7 6 r legal (omega arith) .1);
         }
 
-    pub return-room : Room s r
+    pub return-enough : Enough s r
     unfolding returnRules
-    return-room = room-of (none-applies (returnRules s r) refl accepted .1 .1 .1 .1 .1 .1 .1 .0)
+    return-enough = enough-of (none-applies (returnRules s r) refl accepted .1 .1 .1 .1 .1 .1 .1 .0)

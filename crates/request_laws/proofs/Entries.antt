@@ -1,23 +1,24 @@
 -- A request row that holds an accepted record's fields: it is sound, waiting or paired with another such row.
 -- Assumes nothing.
 use mathlib.Core.Path.{_≡_, refl, sym, _∙_}
-use mathlib.Core.Bool.{true}
+use mathlib.Core.Bool.{Bool, true, not, _&&_, _||_}
 use mathlib.Core.List.{List}
 use mathlib.Core.Logic.{_⊎_, inl, inr}
 use Prim.Native.Nat.{ℕ, _+_, _≤_, _<_}
 use native.Mathlib.Omega.{arith}
 use lib.Dec.{eqb}
 use borrow.Author.Tests.{eq-eqb, ne-eqb}
+use Rattle.laws.proofs.Cases.{and-left}
 use Rattle.calendar.specs.Target.{openDay}
-use Rattle.book.specs.Layout.{tolerance, nextNumber, maps, numbers, requestKinds, sides, givers, takers, basketsOrExposures, amounts, settlements, closings, settledAmounts, partners, pairPartials, cancels, ends, inUse, exposureGivers, exposureTakers}
+use Rattle.book.specs.Layout.{tolerance, nextNumber, numbers, requestKinds, sides, givers, takers, basketsOrExposures, amounts, settlements, closings, settledAmounts, partners, pairPartials, cancels, ends, inUse, exposureGivers, exposureTakers}
 use Rattle.book.specs.State.{State}
 use Rattle.rules.specs.Requests.{isUsed, isReturn, isPaired, partnerOf, exposureWith, exposureOfFop, openOrNone}
 use Rattle.rules.specs.Requesting.{withRow}
-use Rattle.rules.specs.Fields.{sideIn, giverIn, takerIn, basketOrExposureIn, amountIn, settlementIn, closingIn}
+use Rattle.rules.specs.Fields.{sideIn, giverIn, takerIn, basketOrExposureIn, amountIn, settlementIn, closingIn, referenceIn}
 use Rattle.rules.specs.ByRow.{soundRow}
 use Rattle.rules.specs.Stock.{basketSetUp}
 use Rattle.facts.proofs.Rows.{Parties, Fop, Return, Kind, fop, return, Fields, Pair, paired-sound, unpaired-sound}
-use Rattle.request_laws.proofs.Covering.{Covers, parties-kept, key-kept}
+use Rattle.request_laws.proofs.Covering.{Covers, isRowTable, parties-kept, key-kept}
 use Rattle.request_laws.proofs.Staying.{SameRow}
 
 -- what an accepted record names, by its kind
@@ -37,7 +38,7 @@ pub data KindIn (s : State) (k : ℕ) (r : List ℕ) : Type 0 where
   fopIn : k ≡ 6 → FopIn s r → KindIn s k r
   returnIn : k ≡ 7 → ReturnIn s r → KindIn s k r
 
--- and of either kind
+-- and of either kind; its days and its reference fit their bytes
 pub record RequestIn (s : State) (k : ℕ) (r : List ℕ) : Type 0 where
   pub side : sideIn r ≤ 1
   pub parties : Parties s (giverIn r) (takerIn r)
@@ -45,6 +46,9 @@ pub record RequestIn (s : State) (k : ℕ) (r : List ℕ) : Type 0 where
   pub amount-low : 1 ≤ amountIn r
   pub amount-high : amountIn r ≤ 1000000000000
   pub settlement : openDay (settlementIn r) ≡ true
+  pub settlement-small : settlementIn r < 4294967296
+  pub closing-small : closingIn k r < 4294967296
+  pub reference-small : referenceIn k r < 18446744073709551616
 
 -- a pair of its requests is of returns, or there is an exposure with its key
 abbrev pub Belongs : State → ℕ → List ℕ → Type 0
@@ -67,16 +71,10 @@ pub record Entry (t : State) (k : ℕ) (r : List ℕ) (i n a p m : ℕ) : Type 0
   pub cancel : t cancels i ≤ 1
   pub end : t ends i ≡ 0
 
--- nothing is settled in a row, and it has no mark of cancel or end
-pub record Unmarked (s : State) (i : ℕ) : Type 0 where
-  pub settled : s settledAmounts i ≡ 0
-  pub cancel : s cancels i ≡ 0
-  pub end : s ends i ≡ 0
-
--- a row as it is made; it says nothing of these
-pub entry-made : (s : State) (k : ℕ) (r : List ℕ) (i n a p m : ℕ) → Unmarked s i → Entry (withRow s k r i n a p m) k r i n a p m
+-- a row as it is made
+pub entry-made : (s : State) (k : ℕ) (r : List ℕ) (i n a p m : ℕ) → Entry (withRow s k r i n a p m) k r i n a p m
 unfolding withRow
-entry-made s k r i n a p m none =
+entry-made s k r i n a p m =
     let here : eqb i i ≡ true = eq-eqb i i refl in
     record {
       number = rw here;
@@ -88,20 +86,21 @@ entry-made s k r i n a p m none =
       amount = rw here;
       settlement = rw here;
       closing = rw here;
-      settled = none .settled;
+      settled = rw here;
       partner = rw here;
       partial = rw here;
-      cancel = omega (arith, none .cancel);
-      end = none .end;
+      cancel = rw here (omega arith);
+      end = rw here;
     }
 
-pub made-unmarked : {s : State} {j : ℕ} (k : ℕ) (r : List ℕ) (i n a p m : ℕ) → Unmarked s j → Unmarked (withRow s k r i n a p m) j
-unfolding withRow
-made-unmarked k r i n a p m none = record { settled = none .settled; cancel = none .cancel; end = none .end }
+-- the tables of a row but the partner's mark and the pair's partial mark
+abbrev pub isEntered : ℕ → Bool
+isEntered f = isRowTable f && not (eqb f partners || eqb f pairPartials)
 
--- a row that stays holds them still
-pub entry-stays : {t u : State} {k : ℕ} {r : List ℕ} {i n a p m : ℕ} → Entry t k r i n a p m → SameRow t u i → Entry u k r i n a p m
-entry-stays x same = record {
+-- a row that stays, but for its pair, holds them still
+pub entry-stays : {t u : State} {k : ℕ} {r : List ℕ} {i n a p m p′ m′ : ℕ} → Entry t k r i n a p m → ((f : ℕ) → isEntered f ≡ true → u f i ≡ t f i)
+    → u partners i ≡ p′ → u pairPartials i ≡ m′ → Entry u k r i n a p′ m′
+entry-stays x same partner partial = record {
   number = same numbers refl ∙ x .number;
   kind = same requestKinds refl ∙ x .kind;
   side = same sides refl ∙ x .side;
@@ -112,19 +111,23 @@ entry-stays x same = record {
   settlement = same settlements refl ∙ x .settlement;
   closing = same closings refl ∙ x .closing;
   settled = same settledAmounts refl ∙ x .settled;
-  partner = same partners refl ∙ x .partner;
-  partial = same pairPartials refl ∙ x .partial;
+  partner = partner;
+  partial = partial;
   cancel = rw (same cancels refl) (x .cancel);
   end = same ends refl ∙ x .end;
 }
+
+pub entry-same : {t u : State} {k : ℕ} {r : List ℕ} {i n a p m : ℕ} → Entry t k r i n a p m → SameRow t u i → Entry u k r i n a p m
+entry-same x same =
+    entry-stays x (λ f h. same f (and-left (isRowTable f) (not (eqb f partners || eqb f pairPartials)) h)) (same partners refl ∙ x .partner) (same pairPartials refl ∙ x .partial)
 
 module _ {s t : State} {k : ℕ} {r : List ℕ} (c : Covers s t) (q : RequestIn s k r) where
   module _ {i n a p m : ℕ} (x : Entry t k r i n a p m) where
     entry-fop : k ≡ 6 → FopIn s r → Fop t i
     entry-fop e f = record {
       basket-below = rw (x .object) (f .basket-below);
-      basket-known = rw (x .object, c .left maps (basketOrExposureIn r) refl) (f .basket-known);
-      amount-low = rw (x .amount, c .left tolerance 0 refl) (f .amount-low);
+      basket-known = rw (x .object, c .map (basketOrExposureIn r)) (f .basket-known);
+      amount-low = rw (x .amount, c .tolerance-same) (f .amount-low);
       amount-high = rw (x .amount) (q .amount-high);
       closing = rw (x .closing, e) (f .closing);
     }
@@ -135,9 +138,9 @@ module _ {s t : State} {k : ℕ} {r : List ℕ} (c : Covers s t) (q : RequestIn 
         let u : s inUse o ≡ 1 = f .exposure-used in
         record {
           exposure-below = rw (x .object) (f .exposure-below);
-          exposure-used = rw (x .object) (c .exposure inUse o refl u ∙ u);
-          giver = rw (x .object, x .giver) (c .exposure exposureGivers o refl u ∙ f .giver);
-          taker = rw (x .object, x .taker) (c .exposure exposureTakers o refl u ∙ f .taker);
+          exposure-used = rw (x .object) (c .used o u);
+          giver = rw (x .object, x .giver) (c .giver o u ∙ f .giver);
+          taker = rw (x .object, x .taker) (c .taker o u ∙ f .taker);
           amount-low = rw (x .amount) (q .amount-low);
           amount-high = rw (x .amount) (q .amount-high);
           closing = x .closing ∙ rw e;

@@ -11,31 +11,27 @@ use lib.Dec.{eqb, ltb}
 use borrow.Author.Tests.{eqb-true, eqb-false, eq-eqb, ne-eqb, not-true, not-false, ltb-true}
 use Rattle.laws.specs.Search.{count}
 use Rattle.laws.proofs.Cases.{either, clash}
-use Rattle.book.specs.Layout.{nextNumber, numbers, requestKinds, sides, givers, takers, basketsOrExposures, amounts, settlements, closings, settledAmounts, partners, pairPartials, cancels, ends}
+use Rattle.book.specs.Layout.{nextNumber, numbers, requestKinds, sides, givers, takers, basketsOrExposures, amounts, settlements, closings, partners, pairPartials, ends}
 use Rattle.book.specs.State.{State, put}
 use Rattle.book.proofs.Images.{put-apart}
 use Rattle.rules.specs.Requests.{isUsed, isPaired, isWhole, isLive, allowPartial, freeRow}
 use Rattle.rules.specs.Requesting.{takerFollows, isEqual, earliestEqual, pairsNow, rowsNeeded, partialMark, withRow, withTaker, withEqual, waiting, rowsEntered}
 use Rattle.rules.specs.Fields.{sideIn, giverIn, takerIn, basketOrExposureIn, amountIn, settlementIn, closingIn}
-use Rattle.facts.proofs.Keeps.{Good, Keeps}
-use Rattle.facts.proofs.Rows.{head-facts, used-fields, used-unpaired, unused-blank}
+use Rattle.facts.proofs.Keeps.{Keeps}
+use Rattle.facts.specs.Good.{Good}
+use Rattle.rules.specs.ByRow.{soundRow}
+use Rattle.facts.proofs.Rows.{Fields, head-facts, used-fields, used-unpaired, unused-blank}
 use Rattle.facts.proofs.Truth.{split}
-use Rattle.request_laws.proofs.Covering.{Distinct, isRowTable, tables-differ, distinct-facts}
-use Rattle.request_laws.proofs.Entries.{RequestIn, Belongs, Entry, Unmarked, entry-made, made-unmarked, entry-stays, waiting-sound, pair-sound}
+use Rattle.request_laws.proofs.Covering.{Distinct, isRowTable, tables-differ, distinct-facts, leaving}
+use Rattle.request_laws.proofs.Entries.{RequestIn, Belongs, Entry, isEntered, entry-made, entry-stays, entry-same, waiting-sound, pair-sound}
 use Rattle.request_laws.proofs.Finding.{Free, free-row, second-row, earliest-equal}
-use Rattle.request_laws.proofs.Keeping.{leaving}
-use Rattle.request_laws.proofs.Staying.{SameRow}
-use Rattle.request_laws.proofs.Touching.{Touches, Small, Writes, unwritten, write, write-row, touch-next, touches-covers, touches-keep}
+use Rattle.request_laws.proofs.Touching.{Touches, Writes, unwritten, write, write-row, touch-next, touches-cover, touches-keep}
 
 -- a number above all others is distinct from them
 distinct-more : {m : ℕ → ℕ} (i n : ℕ) → Distinct m → ((l : ℕ) → l < 256 → m l < n) → Distinct (λ l. cond (eqb l i) n (m l))
 distinct-more {m} i n d high j k a b e =
     elim (ℕ-discrete j i) [
-      | yes p ↦
-          elim (ℕ-discrete k i) [
-            | yes q ↦ inr (p ∙ sym q)
-            | no q ↦ absurd (let z : n ≡ m k = rw (eq-eqb j i p, ne-eqb k i q) at e in omega (arith, high k b))
-          ]
+      | yes p ↦ absurd (let z : n ≡ m k = rw (eq-eqb j i p, ne-eqb k i (λ q. omega arith)) at e in omega (arith, high k (omega arith)))
       | no p ↦
           elim (ℕ-discrete k i) [
             | yes q ↦ absurd (let z : m j ≡ n = rw (ne-eqb j i p, eq-eqb k i q) at e in omega (arith, high j a))
@@ -63,61 +59,55 @@ module _ (s : State) (good : Good s) where
       (λ u. omega (arith, head-facts s (good .facts .head) .next-low, eqb-true (s numbers l) 0 (not-false (eqb (s numbers l) 0) u)))
       (either (isUsed s l))
 
-  free-blank : {i : ℕ} → Free s i → (f : ℕ) → requestKinds ≤ f → f < requestKinds + 14 → s f i ≡ 0
-  free-blank {i} free = unused-blank s i (good .facts .row i (free .below)) (rw (free .unused))
-
   free-alone : {i : ℕ} → Free s i → s partners i ≡ 0
-  free-alone free = free-blank free partners (omega arith) (omega arith)
-
-  free-unmarked : {i : ℕ} → Free s i → Unmarked s i
-  free-unmarked free = record {
-    settled = free-blank free settledAmounts (omega arith) (omega arith);
-    cancel = free-blank free cancels (omega arith) (omega arith);
-    end = free-blank free ends (omega arith) (omega arith);
-  }
+  free-alone {i} free = unused-blank s i (good .facts .row i (free .below)) (rw (free .unused)) partners (omega arith) (omega arith)
 
 -- rows and numbers for what enters
-pub record Room (s : State) (r : List ℕ) : Type 0 where
+pub record Enough (s : State) (r : List ℕ) : Type 0 where
   pub rows : rowsNeeded s r ≤ count (λ i. eqb (s numbers i) 0) 256 0
   pub numbers : s nextNumber 0 + rowsNeeded s r ≤ 1000000000
 
-needed-low : (b : Bool) → 1 ≤ cond b 2 1
+pub needed-low : (b : Bool) → 1 ≤ cond b 2 1
 needed-low true = omega arith
 needed-low false = omega arith
 
 -- an equal request that waits
 record Waits (s : State) (k : ℕ) (r : List ℕ) (j : ℕ) : Type 0 where
   used : isUsed s j ≡ true
-  end : s ends j ≡ 0
-  partner : s partners j ≡ 0
+  fields : Fields s j
   opposite : s sides j + sideIn r ≡ 1
-  kind : s requestKinds j ≡ k
-  giver : s givers j ≡ giverIn r
-  taker : s takers j ≡ takerIn r
-  object : s basketsOrExposures j ≡ basketOrExposureIn r
-  amount : s amounts j ≡ amountIn r
-  settlement : s settlements j ≡ settlementIn r
-  closing : s closings j ≡ closingIn k r
+  entry : Entry s k r j (s numbers j) (s sides j) 0 0
 
-equal-waits : (s : State) (k : ℕ) (r : List ℕ) (j : ℕ) → isEqual s k r j ≡ true → Waits s k r j
-equal-waits s k r j h =
+equal-waits : (s : State) (k : ℕ) (r : List ℕ) (j : ℕ) → soundRow s j ≡ true → isEqual s k r j ≡ true → Waits s k r j
+equal-waits s k r j sound h =
     let t = split (isLive s j ∷ not (isPaired s j) ∷ eqb (s sides j + sideIn r) 1 ∷ eqb (s requestKinds j) k ∷ eqb (s givers j) (giverIn r) ∷ eqb (s takers j) (takerIn r) ∷ eqb (s basketsOrExposures j) (basketOrExposureIn r) ∷ eqb (s amounts j) (amountIn r) ∷ eqb (s settlements j) (settlementIn r) ∷ eqb (s closings j) (closingIn k r) ∷ []) h in
     let live = split (isUsed s j ∷ eqb (s ends j) 0 ∷ not (isWhole s j) ∷ []) (t .0) in
+    let alone = not-true (isPaired s j) (t .1 .0) in
+    let unpaired = used-unpaired s j sound (live .0) alone in
+    let fields = used-fields s j sound (live .0) in
     record {
       used = live .0;
-      end = eqb-true (s ends j) 0 (live .1 .0);
-      partner = eqb-true (s partners j) 0 (not-false (eqb (s partners j) 0) (not-true (isPaired s j) (t .1 .0)));
+      fields = fields;
       opposite = eqb-true (s sides j + sideIn r) 1 (t .1 .1 .0);
-      kind = eqb-true (s requestKinds j) k (t .1 .1 .1 .0);
-      giver = eqb-true (s givers j) (giverIn r) (t .1 .1 .1 .1 .0);
-      taker = eqb-true (s takers j) (takerIn r) (t .1 .1 .1 .1 .1 .0);
-      object = eqb-true (s basketsOrExposures j) (basketOrExposureIn r) (t .1 .1 .1 .1 .1 .1 .0);
-      amount = eqb-true (s amounts j) (amountIn r) (t .1 .1 .1 .1 .1 .1 .1 .0);
-      settlement = eqb-true (s settlements j) (settlementIn r) (t .1 .1 .1 .1 .1 .1 .1 .1 .0);
-      closing = eqb-true (s closings j) (closingIn k r) (t .1 .1 .1 .1 .1 .1 .1 .1 .1);
+      entry = record {
+        number = refl;
+        kind = eqb-true (s requestKinds j) k (t .1 .1 .1 .0);
+        side = refl;
+        giver = eqb-true (s givers j) (giverIn r) (t .1 .1 .1 .1 .0);
+        taker = eqb-true (s takers j) (takerIn r) (t .1 .1 .1 .1 .1 .0);
+        object = eqb-true (s basketsOrExposures j) (basketOrExposureIn r) (t .1 .1 .1 .1 .1 .1 .0);
+        amount = eqb-true (s amounts j) (amountIn r) (t .1 .1 .1 .1 .1 .1 .1 .0);
+        settlement = eqb-true (s settlements j) (settlementIn r) (t .1 .1 .1 .1 .1 .1 .1 .1 .0);
+        closing = eqb-true (s closings j) (closingIn k r) (t .1 .1 .1 .1 .1 .1 .1 .1 .1);
+        settled = unpaired .settled;
+        partner = eqb-true (s partners j) 0 (not-false (eqb (s partners j) 0) alone);
+        partial = unpaired .partial;
+        cancel = fields .cancel;
+        end = eqb-true (s ends j) 0 (live .1 .0);
+      };
     }
 
-module _ (s : State) (k : ℕ) (r : List ℕ) (good : Good s) (q : RequestIn s k r) (small : Small k r) where
+module _ (s : State) (k : ℕ) (r : List ℕ) (good : Good s) (q : RequestIn s k r) where
   abbrev n : ℕ
   n = s nextNumber 0
 
@@ -130,21 +120,23 @@ module _ (s : State) (k : ℕ) (r : List ℕ) (good : Good s) (q : RequestIn s k
   next-low : 1 ≤ n
   next-low = head-facts s (good .facts .head) .next-low
 
+  -- a row as it is made, with another number for the next request
+  last-made : (t : State) (l n₁ a p m x : ℕ) → Entry (put (withRow t k r l n₁ a p m) nextNumber 0 x) k r l n₁ a p m
+  unfolding withRow
+  last-made t l n₁ a p m x =
+      let made = entry-made t k r l n₁ a p m in
+      entry-stays made (λ f h. put-apart (withRow t k r l n₁ a p m) nextNumber 0 x f l (tables-differ isEntered f nextNumber h refl)) (made .partner) (made .partial)
+
   -- a request that waits
   waiting-keeps : Free s i → n + 1 ≤ 1000000000 → (a b m : ℕ) → Keeps s (leaving a b m (waiting s k r) [])
   unfolding waiting withRow
-  waiting-keeps free high a b m =
-      let t = waiting s k r in
-      let w = withRow s k r i n (sideIn r) 0 0 in
-      let touched : Touches s t i i =
-      touch-next (n + 1) (omega arith)
-      (write-row k r i n (sideIn r) 0 0 small (inl refl) (free .below) (omega arith) (q .side) (omega arith) (omega arith) (unwritten i i (good .fits))) in
-      let covers = touches-covers touched (omega arith) high in
-      let entry = entry-stays {u = t} (entry-made s k r i n (sideIn r) 0 0 (free-unmarked s good free))
-      (λ f h. put-apart w nextNumber 0 (n + 1) f i (tables-differ isRowTable f nextNumber h refl)) in
-      let own = waiting-sound covers q entry (omega (arith, next-low)) (omega arith) (q .side) in
+  waiting-keeps free high =
+      let touched : Touches s (waiting s k r) i i =
+      touch-next (n + 1) (omega arith) (write-row i n (sideIn r) 0 0 q (inl refl) (free .below) (omega arith) (q .side) (omega arith) (omega arith) (unwritten i i (good .fits))) in
+      let low : n ≤ n + 1 = omega arith in
+      let own = waiting-sound (touches-cover touched low) q (last-made s i n (sideIn r) 0 0 (n + 1)) (omega (arith, next-low)) (omega arith) (q .side) in
       let alone = free-alone s good free in
-      touches-keep touched covers good alone alone own own a b m (distinct-more i n distinct (numbers-below s good))
+      touches-keep touched low good high alone alone own own (distinct-more i n distinct (numbers-below s good))
 
   abbrev mark : ℕ
   mark = partialMark s r
@@ -153,74 +145,57 @@ module _ (s : State) (k : ℕ) (r : List ℕ) (good : Good s) (q : RequestIn s k
   small-mark = mark-le (allowPartial s (giverIn r) (takerIn r))
 
   -- the two rows of a new pair
-  module _ {t : State} {j n₁ n₂ a₁ a₂ : ℕ} (touched : Touches s t i j) (free : Free s i) (row : j < 256) (unpaired : s partners j ≡ 0)
-      (own : Entry t k r i n₁ a₁ (j + 1) mark) (mate : Entry t k r j n₂ a₂ (i + 1) mark) (opposite : a₁ + a₂ ≡ 1) (belongs : Belongs s k r) where
-    pair-keeps : 0 < n₁ → n₁ < t nextNumber 0 → 0 < n₂ → n₂ < t nextNumber 0 → n ≤ t nextNumber 0 → t nextNumber 0 ≤ 1000000000 → Distinct (t numbers)
-        → (a b m : ℕ) → Keeps s (leaving a b m t [])
-    pair-keeps low₁ below₁ low₂ below₂ low high apart a b m =
-        let covers = touches-covers touched low high in
-        touches-keep touched covers good (free-alone s good free) unpaired
-        (pair-sound covers q own mate row opposite low₁ below₁ small-mark belongs)
-        (pair-sound covers q mate own (free .below) (omega arith) low₂ below₂ small-mark belongs) a b m apart
+  pair-keeps : {t : State} {j n₁ n₂ a₁ a₂ : ℕ} → Touches s t i j → Free s i → j < 256 → s partners j ≡ 0 → Entry t k r i n₁ a₁ (j + 1) mark → Entry t k r j n₂ a₂ (i + 1) mark
+      → a₁ + a₂ ≡ 1 → Belongs s k r → 0 < n₁ → n₁ < t nextNumber 0 → 0 < n₂ → n₂ < t nextNumber 0 → n ≤ t nextNumber 0 → t nextNumber 0 ≤ 1000000000 → Distinct (t numbers)
+      → (a b m : ℕ) → Keeps s (leaving a b m t [])
+  pair-keeps touched free row unpaired own mate opposite belongs low₁ below₁ low₂ below₂ low high =
+      let covers = touches-cover touched low in
+      touches-keep touched low good high (free-alone s good free) unpaired
+      (pair-sound covers q own mate row opposite low₁ below₁ small-mark belongs)
+      (pair-sound covers q mate own (free .below) (omega arith) low₂ below₂ small-mark belongs)
 
   -- the row i of a request and the row j of the taker request made for it
   taker-keeps : Free s i → Free s (freeRow (put s numbers i n)) → (i ≡ freeRow (put s numbers i n) → ⊥) → n + 2 ≤ 1000000000 → Belongs s k r
       → (a b m : ℕ) → Keeps s (leaving a b m (withTaker s k r) [])
   unfolding withTaker withRow
-  taker-keeps free second differ high belongs a b m =
-      let t = withTaker s k r in
+  taker-keeps free second differ high belongs =
       let j = freeRow (put s numbers i n) in
       let w = withRow s k r i n 0 (j + 1) mark in
-      let v = withRow w k r j (n + 1) 1 (i + 1) mark in
-      let first = write-row k r i n 0 (j + 1) mark small (inl refl) (free .below) (omega arith) (omega arith) (omega (arith, second .below)) small-mark (unwritten i j (good .fits)) in
-      let then : (o : State) (h : ℕ) → Writes isRowTable o w h j → Touches o t h j = λ o h c.
-      touch-next (n + 2) (omega arith)
-      (write-row k r j (n + 1) 1 (i + 1) mark small (inr refl) (second .below) (omega arith) (omega arith) (omega (arith, free .below)) small-mark c) in
-      let own = entry-stays {u = t} (entry-made s k r i n 0 (j + 1) mark (free-unmarked s good free)) (then w j (unwritten j j (first .fits)) .other i differ differ) in
-      let mate = entry-stays {u = t} (entry-made w k r j (n + 1) 1 (i + 1) mark (made-unmarked k r i n 0 (j + 1) mark (free-unmarked s good second)))
-      (λ f h. put-apart v nextNumber 0 (n + 2) f j (tables-differ isRowTable f nextNumber h refl)) in
+      let first = write-row i n 0 (j + 1) mark q (inl refl) (free .below) (omega arith) (omega arith) (omega (arith, second .below)) small-mark (unwritten i j (good .fits)) in
+      let then : (o : State) (h : ℕ) → Writes isRowTable o w h j → Touches o (withTaker s k r) h j = λ o h c.
+      touch-next (n + 2) (omega arith) (write-row j (n + 1) 1 (i + 1) mark q (inr refl) (second .below) (omega arith) (omega arith) (omega (arith, free .below)) small-mark c) in
+      let own = entry-same (entry-made s k r i n 0 (j + 1) mark) (then w j (unwritten j j (first .fits)) .other i differ differ) in
       let apart = distinct-more j (n + 1) (distinct-more i n distinct (numbers-below s good)) (more-below i n (numbers-below s good)) in
-      pair-keeps (then s i first) free (second .below) (free-alone s good second) own mate refl belongs
-      (omega (arith, next-low)) (omega arith) (omega arith) (omega arith) (omega arith) high apart a b m
+      pair-keeps (then s i first) free (second .below) (free-alone s good second) own (last-made w j (n + 1) 1 (i + 1) mark (n + 2)) refl belongs
+      (omega (arith, next-low)) (omega arith) (omega arith) (omega arith) (omega arith) high apart
 
   -- the row i of a request that pairs with the row j, which waits
   equal-keeps : (j : ℕ) → Free s i → j < 256 → Waits s k r j → n + 1 ≤ 1000000000 → Belongs s k r → (a b m : ℕ) → Keeps s (leaving a b m (withEqual s k r j) [])
   unfolding withEqual withRow
-  equal-keeps j free row waits high belongs a b m =
+  equal-keeps j free row waits high belongs =
       let t = withEqual s k r j in
       let w = withRow s k r i n (sideIn r) (j + 1) mark in
-      let fields = used-fields s j (good .facts .row j row) (waits .used) in
       let differ : i ≡ j → ⊥ = λ e. clash (waits .used) (rw (← e, free .unused)) in
       let first : (h : ℕ) → Writes isRowTable s w i h = λ h.
-      write-row k r i n (sideIn r) (j + 1) mark small (inl refl) (free .below) (omega arith) (q .side) (omega arith) small-mark (unwritten i h (good .fits)) in
+      write-row i n (sideIn r) (j + 1) mark q (inl refl) (free .below) (omega arith) (q .side) (omega arith) small-mark (unwritten i h (good .fits)) in
       let then : (o : State) (h : ℕ) → Writes isRowTable o w h j → Touches o t h j = λ o h c.
       touch-next (n + 1) (omega arith)
-      (write pairPartials j mark refl (inr refl) (omega arith) row (omega (arith, small-mark)) (write partners j (i + 1) refl (inr refl) (omega arith) row (omega (arith, free .below)) c)) in
-      let own = entry-stays {u = t} (entry-made s k r i n (sideIn r) (j + 1) mark (free-unmarked s good free)) (then w j (unwritten j j (first i .fits)) .other i differ differ) in
-      let stays : SameRow s w j = λ f h. first i .other f j (λ e. differ (sym e)) (λ e. differ (sym e)) in
+      (write pairPartials j mark refl (inr refl) row (omega (arith, small-mark)) (write partners j (i + 1) refl (inr refl) row (omega (arith, free .below)) c)) in
+      let own = entry-same (entry-made s k r i n (sideIn r) (j + 1) mark) (then w j (unwritten j j (first i .fits)) .other i differ differ) in
       let here : eqb j j ≡ true = eq-eqb j j refl in
-      let mate : Entry t k r j (s numbers j) (s sides j) (i + 1) mark = record {
-        number = stays numbers refl;
-        kind = stays requestKinds refl ∙ waits .kind;
-        side = stays sides refl;
-        giver = stays givers refl ∙ waits .giver;
-        taker = stays takers refl ∙ waits .taker;
-        object = stays basketsOrExposures refl ∙ waits .object;
-        amount = stays amounts refl ∙ waits .amount;
-        settlement = stays settlements refl ∙ waits .settlement;
-        closing = stays closings refl ∙ waits .closing;
-        settled = used-unpaired s j (good .facts .row j row) (waits .used) (rw (waits .partner)) .settled;
-        partner = rw here;
-        partial = rw here;
-        cancel = fields .cancel;
-        end = waits .end;
-      } in
+      let w₁ = put w partners j (i + 1) in
+      let stays : (f : ℕ) → isEntered f ≡ true → t f j ≡ s f j = λ f h.
+      put-apart (put w₁ pairPartials j mark) nextNumber 0 (n + 1) f j (tables-differ isEntered f nextNumber h refl)
+      ∙ put-apart w₁ pairPartials j mark f j (tables-differ isEntered f pairPartials h refl)
+      ∙ put-apart w partners j (i + 1) f j (tables-differ isEntered f partners h refl)
+      ∙ first i .other f j (λ e. differ (sym e)) (λ e. differ (sym e)) in
+      let mate = entry-stays {u = t} {p′ = i + 1} {m′ = mark} (waits .entry) stays (rw here) (rw here) in
       let low : s numbers j ≡ 0 → ⊥ = eqb-false (s numbers j) 0 (not-true (eqb (s numbers j) 0) (waits .used)) in
-      pair-keeps (then s i (first j)) free row (waits .partner) own mate (omega (arith, waits .opposite)) belongs
-      (omega (arith, next-low)) (omega arith) (omega arith) (omega (arith, fields .number-below)) (omega arith) high (distinct-more i n distinct (numbers-below s good)) a b m
+      pair-keeps (then s i (first j)) free row (waits .entry .partner) own mate (omega (arith, waits .opposite)) belongs
+      (omega (arith, next-low)) (omega arith) (omega arith) (omega (arith, waits .fields .number-below)) (omega arith) high (distinct-more i n distinct (numbers-below s good))
 
   -- whichever way it goes
-  pub entering-keeps : Room s r → (pairsNow s k r ≡ true → Belongs s k r) → (a b m : ℕ) → Keeps s (leaving a b m (rowsEntered s k r) [])
+  pub entering-keeps : Enough s r → (pairsNow s k r ≡ true → Belongs s k r) → (a b m : ℕ) → Keeps s (leaving a b m (rowsEntered s k r) [])
   entering-keeps room belongs a b m =
       let j = earliestEqual s k r in
       let free : Free s i = free-row s (omega (arith, room .rows, needed-low (takerFollows s r))) in
@@ -235,7 +210,7 @@ module _ (s : State) (k : ℕ) (r : List ℕ) (good : Good s) (q : RequestIn s k
       ⊎-elim
       (λ (l : ltb j 256 ≡ true).
       let below = ltb-true j 256 l in
-      rw (f, l) (equal-keeps j free below (equal-waits s k r j (earliest-equal s k r below)) high (belongs (rw (f, l))) a b m))
+      rw (f, l) (equal-keeps j free below (equal-waits s k r j (good .facts .row j below) (earliest-equal s k r below)) high (belongs (rw (f, l))) a b m))
       (λ (l : ltb j 256 ≡ false). rw (f, l) (waiting-keeps free high a b m))
       (either (ltb j 256)))
       (either (takerFollows s r))

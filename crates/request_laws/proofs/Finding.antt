@@ -2,24 +2,33 @@
 -- Assumes nothing.
 use mathlib.Core.Path.{_≡_, sym}
 use mathlib.Core.Bool.{Bool, true, false, _&&_, _||_}
-use mathlib.Core.List.{List}
+use mathlib.Core.List.{List, [], _∷_}
 use Prim.Native.Nat.{ℕ, _<_}
 use native.Mathlib.Omega.{arith}
 use lib.Dec.{eqb}
 use borrow.Author.Tests.{eqb-true, eq-eqb, ne-eqb}
 use Rattle.laws.specs.Search.{count}
 use Rattle.laws.proofs.Cases.{clash, and-left}
-use Rattle.book.specs.Layout.{numbers, ends, inUse, exposureGivers, exposureTakers, exposureBaskets, exposureClosings}
+use Rattle.book.specs.Layout.{numbers, inUse, exposureGivers, exposureTakers, exposureBaskets, exposureClosings}
 use Rattle.book.specs.State.{State, put}
 use Rattle.book.proofs.Images.{put-same, put-other}
-use Rattle.rules.specs.Requests.{isUsed, isWhole, isOwner, hasKey, exposureWith, freeExposure, freeRow}
-use Rattle.rules.specs.Requesting.{isEqual, earliestEqual, ownRequest}
+use Rattle.rules.specs.Requests.{isUsed, isWhole, isLive, isOwner, hasKey, exposureWith, freeExposure, freeRow}
+use Rattle.rules.specs.Requesting.{isEqual, earliestEqual, isOwnRequest, ownRequest}
+use Rattle.facts.proofs.Truth.{split}
 use Rattle.facts.proofs.Searches.{least-le, least-holds, least-first, count-finds, count-but-one, found-by}
 
 -- a request row that is not used
 pub record Free (s : State) (i : ℕ) : Type 0 where
   pub below : i < 256
   pub unused : s numbers i ≡ 0
+
+-- an exposure in use with a key
+pub record Key (s : State) (g t b c e : ℕ) : Type 0 where
+  pub used : s inUse e ≡ 1
+  pub giver : s exposureGivers e ≡ g
+  pub taker : s exposureTakers e ≡ t
+  pub basket : s exposureBaskets e ≡ b
+  pub closing : s exposureClosings e ≡ c
 
 module _ (s : State) where
   -- the rows that are not used
@@ -55,6 +64,17 @@ module _ (s : State) where
         rw (eq-eqb (s inUse e) 1 u, eq-eqb (s exposureGivers e) giver g, eq-eqb (s exposureTakers e) taker t, eq-eqb (s exposureBaskets e) basket b)
         (eq-eqb (s exposureClosings e) closing c)
 
+    pub key-facts : (e : ℕ) → hasKey s giver taker basket closing e ≡ true → Key s giver taker basket closing e
+    key-facts e h =
+        let k = split (eqb (s inUse e) 1 ∷ eqb (s exposureGivers e) giver ∷ eqb (s exposureTakers e) taker ∷ eqb (s exposureBaskets e) basket ∷ eqb (s exposureClosings e) closing ∷ []) h in
+        record {
+          used = eqb-true (s inUse e) 1 (k .0);
+          giver = eqb-true (s exposureGivers e) giver (k .1 .0);
+          taker = eqb-true (s exposureTakers e) taker (k .1 .1 .0);
+          basket = eqb-true (s exposureBaskets e) basket (k .1 .1 .1 .0);
+          closing = eqb-true (s exposureClosings e) closing (k .1 .1 .1 .1);
+        }
+
     pub exposure-passes : exposureWith s giver taker basket closing < 64 → hasKey s giver taker basket closing (exposureWith s giver taker basket closing) ≡ true
     exposure-passes h = least-holds (hasKey s giver taker basket closing) 64 0 (omega arith)
 
@@ -80,7 +100,7 @@ module _ (s : State) where
   -- the owner's request is a used row
   pub own-used : (p n : ℕ) → (ownRequest s p n ≡ 256 → ⊥) → (ownRequest s p n < 256) × (isUsed s (ownRequest s p n) ≡ true)
   own-used p n h =
-      let t : ℕ → Bool = λ i. isUsed s i && (eqb (s numbers i) n && ((eqb (s ends i) 0 || isWhole s i) && isOwner s i p)) in
       let i = ownRequest s p n in
+      let t = isOwnRequest s p n in
       let l : i < 256 = omega (arith, least-le t 256 0) in
-      (l, and-left (isUsed s i) (eqb (s numbers i) n && ((eqb (s ends i) 0 || isWhole s i) && isOwner s i p)) (least-holds t 256 0 (omega arith)))
+      (l, and-left (isUsed s i) (eqb (s numbers i) n && ((isLive s i || isWhole s i) && isOwner s i p)) (least-holds t 256 0 (omega arith)))

@@ -5,7 +5,6 @@ pub mod Entering
 pub mod Entries
 pub mod Finding
 pub mod Giving
-pub mod Keeping
 pub mod Order
 pub mod Staying
 pub mod Touching

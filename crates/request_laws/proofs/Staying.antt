@@ -9,11 +9,11 @@ use native.Mathlib.Omega.{arith}
 use lib.Dec.{leb}
 use borrow.Author.Tests.{le-leb, leb-true}
 use Rattle.laws.proofs.Cases.{either}
-use Rattle.book.specs.Layout.{tolerance, maps, numbers, requestKinds, sides, givers, takers, basketsOrExposures, amounts, settlements, closings, settledAmounts, partners, pairPartials, cancels, ends, inUse, exposureGivers, exposureTakers}
+use Rattle.book.specs.Layout.{numbers, requestKinds, sides, givers, takers, basketsOrExposures, amounts, settlements, closings, settledAmounts, partners, pairPartials, cancels, ends, inUse}
 use Rattle.book.specs.State.{State}
 use Rattle.rules.specs.Requests.{isUsed, isReturn, isPaired, partnerOf, exposureOfFop}
 use Rattle.rules.specs.ByRow.{soundRow}
-use Rattle.facts.proofs.Facts.{Sound}
+use Rattle.facts.specs.Good.{Sound}
 use Rattle.facts.proofs.Rows.{Fop, Return, Kind, fop, return, Fields, Pair, used-fields, used-paired, used-unpaired, unused-blank, paired-sound, unpaired-sound, blank-sound}
 use Rattle.facts.proofs.Truth.{split, join}
 use Rattle.request_laws.proofs.Covering.{Covers, isRowTable, parties-kept, key-kept}
@@ -47,8 +47,8 @@ module _ {s t : State} (c : Covers s t) (h : Sound s) where
     fop-kept : Fop s i → Fop t i
     fop-kept f = record {
       basket-below = rw (same basketsOrExposures refl) (f .basket-below);
-      basket-known = rw (same basketsOrExposures refl, c .left maps (s basketsOrExposures i) refl) (f .basket-known);
-      amount-low = rw (same amounts refl, c .left tolerance 0 refl) (f .amount-low);
+      basket-known = rw (same basketsOrExposures refl, c .map (s basketsOrExposures i)) (f .basket-known);
+      amount-low = rw (same amounts refl, c .tolerance-same) (f .amount-low);
       amount-high = rw (same amounts refl) (f .amount-high);
       closing = rw (same closings refl) (f .closing);
     }
@@ -59,9 +59,9 @@ module _ {s t : State} (c : Covers s t) (h : Sound s) where
         let u : s inUse o ≡ 1 = r .exposure-used in
         record {
           exposure-below = rw (same basketsOrExposures refl) (r .exposure-below);
-          exposure-used = rw (same basketsOrExposures refl) (c .exposure inUse o refl u ∙ u);
-          giver = rw (same basketsOrExposures refl, same givers refl) (c .exposure exposureGivers o refl u ∙ r .giver);
-          taker = rw (same basketsOrExposures refl, same takers refl) (c .exposure exposureTakers o refl u ∙ r .taker);
+          exposure-used = rw (same basketsOrExposures refl) (c .used o u);
+          giver = rw (same basketsOrExposures refl, same givers refl) (c .giver o u ∙ r .giver);
+          taker = rw (same basketsOrExposures refl, same takers refl) (c .taker o u ∙ r .taker);
           amount-low = rw (same amounts refl) (r .amount-low);
           amount-high = rw (same amounts refl) (r .amount-high);
           closing = same closings refl ∙ r .closing;

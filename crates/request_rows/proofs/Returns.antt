@@ -6,11 +6,10 @@ use mathlib.Core.List.{List}
 use Prim.Native.Nat.{ℕ}
 use lib.ListN.{getD}
 use borrow.Author.Tests.{eq-eqb, ne-eqb}
-use Rattle.book.specs.Layout.{requestKinds, sides, givers, takers, basketsOrExposures, amounts, settlements, closings, references, partials, partners, pairPartials}
-use Rattle.book.specs.State.{State, put}
+use Rattle.book.specs.Layout.{partials}
+use Rattle.book.specs.State.{State}
 use Rattle.rules.specs.Requesting.{partialMark}
-use Rattle.rules.specs.Fields.{giverIn, takerIn, basketOrExposureIn, amountIn, settlementIn, closingIn, referenceIn}
-use Rattle.request_rows.specs.Rows.{withParties, withTerms, filledRow}
+use Rattle.rules.specs.Fields.{referenceIn}
 
 -- the reference, by the kind
 module _ (k : ℕ) (r : List ℕ) where
@@ -30,16 +29,3 @@ module _ (s : State) (r : List ℕ) {x : ℕ} (xq : x ≡ s partials (getD r 1 0
 
   pub both-partial : {y : ℕ} → x ≡ 1 → y ≡ s partials (getD r 2 0) → y ≡ 1 → 1 ≡ partialMark s r
   both-partial {y} g yq h = rw (← xq, eq-eqb x 1 g, ← yq, eq-eqb y 1 h)
-
--- a row's parts as they are written
-module _ (s : State) (r : List ℕ) (i : ℕ) {a b : State} where
-  pub parties-written : {t : State} → a ≡ put s givers i (giverIn r) → b ≡ put a takers i (takerIn r) → t ≡ put b basketsOrExposures i (basketOrExposureIn r) → t ≡ withParties s r i
-  parties-written aq bq tq = rw (tq, bq, aq)
-
-  pub terms-written : (k : ℕ) {c t : State} {x y : ℕ} → a ≡ put s amounts i (amountIn r) → b ≡ put a settlements i (settlementIn r)
-      → x ≡ closingIn k r → c ≡ put b closings i x → y ≡ referenceIn k r → t ≡ put c references i y → t ≡ withTerms s k r i
-  terms-written k aq bq xq cq yq tq = rw (tq, cq, bq, aq, yq, xq)
-
-  pub row-filled : (k side partner partial : ℕ) {c d e t : State} → a ≡ put s requestKinds i k → b ≡ put a sides i side → c ≡ withParties b r i
-      → d ≡ withTerms c k r i → e ≡ put d partners i partner → t ≡ put e pairPartials i partial → t ≡ filledRow s k r i side partner partial
-  row-filled k side partner partial aq bq cq dq eq tq = rw (tq, eq, dq, cq, bq, aq)

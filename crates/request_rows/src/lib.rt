@@ -2,16 +2,19 @@
 ghost use mathlib.Core.Path.{_≡_};
 ghost use Prim.Native.Nat.{_<_, _≤_};
 ghost use lib.ListN.{length};
+ghost use Rattle.limits.specs.Limits.{greatestNext};
 ghost use Rattle.book.specs.Layout.{bookLength};
 ghost use Rattle.book.specs.State.{state};
 ghost use Rattle.rules.specs.Requests.{freeRow};
 ghost use Rattle.rules.specs.Requesting.{partialMark};
 ghost use Rattle.rules.specs.Fields.{referenceIn};
 ghost use Rattle.request_search.specs.Ranges.{RequestIn};
-ghost use Rattle.request_rows.specs.Rows.{EntryIn, withParties, withTerms, filledRow, RowTaken};
+ghost use Rattle.request_rows.specs.Rows.{EntryIn, withParties, withTerms, withMarks, filledRow, RowTaken};
 use book::layout::AMOUNTS;
 use book::layout::BASKETS_OR_EXPOSURES;
+use book::layout::CANCELS;
 use book::layout::CLOSINGS;
+use book::layout::ENDS;
 use book::layout::GIVERS;
 use book::layout::NUMBERS;
 use book::layout::PAIR_PARTIALS;
@@ -19,19 +22,21 @@ use book::layout::PARTIALS;
 use book::layout::PARTNERS;
 use book::layout::REFERENCES;
 use book::layout::REQUEST_KINDS;
+use book::layout::SETTLED_AMOUNTS;
 use book::layout::SETTLEMENTS;
 use book::layout::SIDES;
 use book::layout::TAKERS;
+use record_kinds::Fields;
 
 // The reference of a record: the last field of its kind.
-fn reference_in(kind: u64, fields: &[u64; 8]) -> u64
+fn reference_in(kind: u64, fields: &Fields) -> u64
     ensures { λ r. ⌜ r ≡ referenceIn kind (now (fields .entry)) ⌝ }
 {
     if kind == 6 { fields[7] } else { fields[6] }
 }
 
 // Writes a row's parties with their basket or exposure.
-fn write_parties(book: &mut [u8], fields: &[u64; 8], i: usize)
+fn write_parties(book: &mut [u8], fields: &Fields, i: usize)
     requires { ⌜ (length (now book) ≡ bookLength) × RequestIn (now fields) × (i < 256) ⌝ }
     ensures { λ _. ⌜ state (now (book .exit)) ≡ withParties (state (now (book .entry))) (now (fields .entry)) i ⌝ }
 {
@@ -41,7 +46,7 @@ fn write_parties(book: &mut [u8], fields: &[u64; 8], i: usize)
 }
 
 // Writes a row's amount, days and reference.
-fn write_terms(book: &mut [u8], kind: u64, fields: &[u64; 8], i: usize)
+fn write_terms(book: &mut [u8], kind: u64, fields: &Fields, i: usize)
     requires { ⌜ (length (now book) ≡ bookLength) × EntryIn kind (now fields) × (i < 256) ⌝ }
     ensures { λ _. ⌜ state (now (book .exit)) ≡ withTerms (state (now (book .entry))) kind (now (fields .entry)) i ⌝ }
 {
@@ -51,11 +56,23 @@ fn write_terms(book: &mut [u8], kind: u64, fields: &[u64; 8], i: usize)
     book::set(book, REFERENCES, i, reference_in(kind, fields));
 }
 
+// Writes what a new row has come to: nothing settled, a partner's mark (0 for none), the pair's partial mark, no cancel and no end.
+fn write_marks(book: &mut [u8], i: usize, partner: u64, partial: u64)
+    requires { ⌜ (length (now book) ≡ bookLength) × (i < 256) × (partner ≤ 256) × (partial ≤ 1) ⌝ }
+    ensures { λ _. ⌜ state (now (book .exit)) ≡ withMarks (state (now (book .entry))) i partner partial ⌝ }
+{
+    book::set(book, SETTLED_AMOUNTS, i, 0);
+    book::set(book, PARTNERS, i, partner);
+    book::set(book, PAIR_PARTIALS, i, partial);
+    book::set(book, CANCELS, i, 0);
+    book::set(book, ENDS, i, 0);
+}
+
 // Writes a row whose number stands already: the record's fields, a side, a partner's mark (0 for none) and the pair's partial mark.
 pub fn fill_row(
     book: &mut [u8],
     kind: u64,
-    fields: &[u64; 8],
+    fields: &Fields,
     i: usize,
     side: u64,
     partner: u64,
@@ -68,13 +85,12 @@ pub fn fill_row(
     book::set(book, SIDES, i, side);
     write_parties(book, fields, i);
     write_terms(book, kind, fields, i);
-    book::set(book, PARTNERS, i, partner);
-    book::set(book, PAIR_PARTIALS, i, partial);
+    write_marks(book, i, partner, partial);
 }
 
 // Takes the lowest free row for a request of that number.
 pub fn take_row(book: &mut [u8], number: u64) -> usize
-    requires { ⌜ (length (now book) ≡ bookLength) × (freeRow (state (now book)) < 256) × (number ≤ 1000000000) ⌝ }
+    requires { ⌜ (length (now book) ≡ bookLength) × (freeRow (state (now book)) < 256) × (number ≤ greatestNext) ⌝ }
     ensures { λ r. ⌜ RowTaken (state (now (book .entry))) number r (state (now (book .exit))) ⌝ }
 {
     let i = request_search::free_row(book);
@@ -83,7 +99,7 @@ pub fn take_row(book: &mut [u8], number: u64) -> usize
 }
 
 // 1 where both parties allow partial settlement now, else 0.
-pub fn partial_mark(book: &[u8], fields: &[u64; 8]) -> u64
+pub fn partial_mark(book: &[u8], fields: &Fields) -> u64
     requires { ⌜ (length (now book) ≡ bookLength) × RequestIn (now fields) ⌝ }
     ensures { λ r. ⌜ (r ≡ partialMark (state (now (book .entry))) (now (fields .entry))) × (r ≤ 1) ⌝ }
 {

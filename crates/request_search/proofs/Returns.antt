@@ -1,7 +1,7 @@
 -- What each return of the searches shows.
 -- Assumes nothing.
-use mathlib.Core.Path.{_≡_, sym, _∙_}
-use mathlib.Core.Bool.{Bool, true, false, not, _&&_, and-false, and-true, or-false}
+use mathlib.Core.Path.{_≡_, refl, sym, _∙_}
+use mathlib.Core.Bool.{Bool, true, false, not, _&&_, _||_, and-false, and-true, or-false}
 use mathlib.Core.List.{List}
 use Prim.Native.Nat.{ℕ, _+_, _-_, _≤_, _<_}
 use native.Mathlib.Decide.{ℕ-discrete, decLt}
@@ -13,22 +13,15 @@ use Rattle.laws.specs.Bits.{hasBit}
 use Rattle.laws.specs.Search.{leastBy}
 use Rattle.book.specs.Layout.{modes, lists, numbers, requestKinds, sides, givers, takers, basketsOrExposures, amounts, settlements, closings, settledAmounts, partners, ends}
 use Rattle.book.specs.State.{State}
-use Rattle.rules.specs.Requests.{isLive, isPaired, isOwner, acceptsGiver}
-use Rattle.rules.specs.Requesting.{takerFollows, isEqual}
+use Rattle.rules.specs.Requests.{isWhole, isLive, isPaired, isOwner, acceptsGiver}
+use Rattle.rules.specs.Requesting.{takerFollows, isEqual, isOwnRequest}
 use Rattle.rules.specs.Fields.{closingIn}
-use Rattle.request_search.specs.Rows.{sameTerms, otherSide, earlierOf, openOrWhole, isOwnRequest}
+use Rattle.request_search.specs.Rows.{sameTerms, otherSide, earlierOf, openOrWhole}
 use Rattle.request_search.proofs.Searches.{leastBy-next, leastBy-le}
 
--- the taker's mode
-module _ (s : State) (taker giver : ℕ) {m : ℕ} (mq : m ≡ s modes taker) where
-  pub automatic : m ≡ 1 → true ≡ acceptsGiver s taker giver
-  automatic h = rw (← mq, eq-eqb m 1 h)
-
-  pub by-list : {l : ℕ} {b : Bool} → m ≡ 2 → l ≡ s lists taker → b ≡ hasBit l giver → b ≡ acceptsGiver s taker giver
-  by-list h lq bq = let two : s modes taker ≡ 2 = sym mq ∙ h in rw (two, ← lq) bq
-
-  pub by-hand : (m ≡ 1 → ⊥) → (m ≡ 2 → ⊥) → false ≡ acceptsGiver s taker giver
-  by-hand a b = rw (← mq, ne-eqb m 1 a, ne-eqb m 2 b)
+-- the taker's list
+pub by-list : (s : State) (taker giver : ℕ) {m l : ℕ} {b : Bool} → m ≡ s modes taker → m ≡ 2 → l ≡ s lists taker → b ≡ hasBit l giver → b ≡ acceptsGiver s taker giver
+by-list s taker giver mq h lq bq = let two : s modes taker ≡ 2 = sym mq ∙ h in rw (two, ← lq) bq
 
 -- a taker request is made for a giver's only
 module _ (s : State) (r : List ℕ) where
@@ -163,13 +156,9 @@ earlier-of-all s k r {best} {i} {x} bq xq l =
     let next : x ≡ leastBy (isEqual s k r) (s numbers) 256 (i + 1) = rw (xq, bq) (sym (leastBy-next (isEqual s k r) (s numbers) 256 i)) in
     (rw next (leastBy-le (isEqual s k r) (s numbers) 256 (i + 1) (omega arith)), next)
 
--- not ended, or settled whole
-module _ (s : State) (i : ℕ) {e : ℕ} (eq : e ≡ s ends i) where
-  pub not-ended : e ≡ 0 → true ≡ openOrWhole s i
-  not-ended h = rw (← eq, eq-eqb e 0 h)
-
-  pub by-whole : {a d : ℕ} → (e ≡ 0 → ⊥) → a ≡ s amounts i → d ≡ s settledAmounts i → leb a d ≡ openOrWhole s i
-  by-whole h aq dq = rw (← eq, ne-eqb e 0 h, ← aq, ← dq)
+-- settled whole, as it was read
+pub whole-read : (x y : ℕ) {a d : ℕ} → a ≡ x → d ≡ y → leb a d ≡ leb x y
+whole-read x y aq dq = rw (aq, dq)
 
 -- the owner
 module _ (s : State) (i p : ℕ) {d : ℕ} (dq : d ≡ s sides i) where
@@ -182,6 +171,12 @@ module _ (s : State) (i p : ℕ) {d : ℕ} (dq : d ≡ s sides i) where
   pub no-owner : (d ≡ 0 → ⊥) → (d ≡ 1 → ⊥) → false ≡ isOwner s i p
   no-owner a b = rw (← dq, ne-eqb d 0 a, ne-eqb d 1 b)
 
+-- of what is live or whole: a row that is whole need not be asked whether it is live
+live-or-whole : (opened whole : Bool) → ((opened && not whole) || whole) ≡ (opened || whole)
+live-or-whole true true = refl
+live-or-whole true false = refl
+live-or-whole false whole = refl
+
 -- the request that a cancel names
 module _ (s : State) (p number i : ℕ) {n : ℕ} (nq : n ≡ s numbers i) where
   pub other-number : (n ≡ number → ⊥) → false ≡ isOwnRequest s p number i
@@ -192,8 +187,11 @@ module _ (s : State) (p number i : ℕ) {n : ℕ} (nq : n ≡ s numbers i) where
     number-none h = rw (← nq, eq-eqb n 0 h)
 
     module _ (used : n ≡ 0 → ⊥) {o : Bool} (oq : o ≡ openOrWhole s i) where
+      as-read : (isLive s i || isWhole s i) ≡ o
+      as-read = rw (← nq, ne-eqb n 0 used) (live-or-whole (eqb (s ends i) 0) (isWhole s i)) ∙ sym oq
+
       pub ended-part : not o ≡ true → false ≡ isOwnRequest s p number i
-      ended-part h = rw (sym oq ∙ not-true o h, and-false, and-false)
+      ended-part h = rw (as-read ∙ not-true o h, and-false, and-false)
 
       pub by-owner : {b : Bool} → not o ≡ false → b ≡ isOwner s i p → b ≡ isOwnRequest s p number i
-      by-owner h bq = rw (← nq, ne-eqb n 0 used, eq-eqb n number nh, sym oq ∙ not-false o h) bq
+      by-owner h bq = rw (as-read ∙ not-false o h, ← nq, ne-eqb n 0 used, eq-eqb n number nh) bq

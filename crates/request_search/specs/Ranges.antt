@@ -2,6 +2,7 @@
 -- Assumes nothing.
 use mathlib.Core.List.{List}
 use Prim.Native.Nat.{ℕ, _≤_}
+use Rattle.limits.specs.Limits.{greatestAmount}
 use Rattle.rules.specs.Fields.{sideIn, giverIn, takerIn, basketOrExposureIn, amountIn, settlementIn}
 
 -- the fields that a FOP and a return have in common
@@ -10,5 +11,5 @@ pub record RequestIn (r : List ℕ) : Type 0 where
   pub giver : giverIn r ≤ 31
   pub taker : takerIn r ≤ 31
   pub object : basketOrExposureIn r ≤ 63
-  pub amount : amountIn r ≤ 1000000000000
+  pub amount : amountIn r ≤ greatestAmount
   pub settlement : settlementIn r ≤ 4294967295

@@ -1,4 +1,4 @@
--- What is looked for in the request rows: free ones, an equal request, the request that a cancel names.
+-- What is looked for in the request rows: free ones, an equal request, one that a cancel may name.
 -- Assumes nothing.
 use mathlib.Core.Bool.{Bool, _&&_, _||_, cond}
 use mathlib.Core.List.{List}
@@ -7,7 +7,7 @@ use lib.Dec.{eqb, ltb}
 use Rattle.laws.specs.Search.{count}
 use Rattle.book.specs.Layout.{numbers, requestKinds, sides, givers, takers, basketsOrExposures, amounts, settlements, closings, ends}
 use Rattle.book.specs.State.{State}
-use Rattle.rules.specs.Requests.{isUsed, isWhole, isOwner}
+use Rattle.rules.specs.Requests.{isWhole}
 use Rattle.rules.specs.Requesting.{isEqual}
 use Rattle.rules.specs.Fields.{sideIn, giverIn, takerIn, basketOrExposureIn, amountIn, settlementIn, closingIn}
 
@@ -30,10 +30,6 @@ otherSide s k r i =
 unfoldable pub earlierOf : State → ℕ → List ℕ → ℕ → ℕ → ℕ
 earlierOf s k r best i = cond (isEqual s k r i && (eqb best 256 || ltb (s numbers i) (s numbers best))) i best
 
--- "that has not ended, or has settled whole"
+-- a used row that has not ended, or has settled whole: live or settled whole
 abbrev pub openOrWhole : State → ℕ → Bool
 openOrWhole s i = eqb (s ends i) 0 || isWhole s i
-
--- the request that a cancel names
-abbrev pub isOwnRequest : State → ℕ → ℕ → ℕ → Bool
-isOwnRequest s p n i = isUsed s i && (eqb (s numbers i) n && (openOrWhole s i && isOwner s i p))

@@ -6,10 +6,10 @@ ghost use lib.ListN.{length};
 ghost use Rattle.book.specs.Layout.{bookLength};
 ghost use Rattle.book.specs.State.{state};
 ghost use Rattle.rules.specs.Requests.{isLive, isPaired, isOwner, acceptsGiver, freeExposure, freeRow};
-ghost use Rattle.rules.specs.Requesting.{takerFollows, isEqual, earliestEqual, ownRequest};
+ghost use Rattle.rules.specs.Requesting.{takerFollows, isEqual, earliestEqual, isOwnRequest, ownRequest};
 ghost use Rattle.rules.specs.Fields.{closingIn};
 ghost use Rattle.request_search.specs.Ranges.{RequestIn};
-ghost use Rattle.request_search.specs.Rows.{rowsFree, sameTerms, otherSide, earlierOf, openOrWhole, isOwnRequest};
+ghost use Rattle.request_search.specs.Rows.{rowsFree, sameTerms, otherSide, earlierOf, openOrWhole};
 use book::layout::AMOUNTS;
 use book::layout::BASKETS_OR_EXPOSURES;
 use book::layout::CLOSINGS;
@@ -25,6 +25,7 @@ use book::layout::SETTLED_AMOUNTS;
 use book::layout::SETTLEMENTS;
 use book::layout::SIDES;
 use book::layout::TAKERS;
+use record_kinds::Fields;
 
 // Is the taker automatic, or does it list the giver?
 pub fn accepts_giver(book: &[u8], taker: usize, giver: u64) -> bool
@@ -42,7 +43,7 @@ pub fn accepts_giver(book: &[u8], taker: usize, giver: u64) -> bool
 }
 
 // Is a taker request made for this one?
-pub fn does_taker_follow(book: &[u8], fields: &[u64; 8]) -> bool
+pub fn does_taker_follow(book: &[u8], fields: &Fields) -> bool
     requires { ⌜ (length (now book) ≡ bookLength) × RequestIn (now fields) ⌝ }
     ensures { λ r. ⌜ r ≡ takerFollows (state (now (book .entry))) (now (fields .entry)) ⌝ }
 {
@@ -53,14 +54,14 @@ pub fn does_taker_follow(book: &[u8], fields: &[u64; 8]) -> bool
 }
 
 // The closing day of a record; a return has none.
-pub fn closing_in(kind: u64, fields: &[u64; 8]) -> u64
+pub fn closing_in(kind: u64, fields: &Fields) -> u64
     ensures { λ r. ⌜ r ≡ closingIn kind (now (fields .entry)) ⌝ }
 {
     if kind == 6 { fields[6] } else { 0 }
 }
 
 // Has the row i the record's basket or exposure, amount and days? The amount comes first: it differs most.
-fn has_terms(book: &[u8], kind: u64, fields: &[u64; 8], i: usize) -> bool
+fn has_terms(book: &[u8], kind: u64, fields: &Fields, i: usize) -> bool
     requires { ⌜ (length (now book) ≡ bookLength) × (i < 256) ⌝ }
     ensures { λ r. ⌜ r ≡ sameTerms (state (now (book .entry))) kind (now (fields .entry)) i ⌝ }
 {
@@ -77,7 +78,7 @@ fn has_terms(book: &[u8], kind: u64, fields: &[u64; 8], i: usize) -> bool
 }
 
 // Is the row i equal to the record in all fields but side and reference, and of the other side?
-fn is_other_side(book: &[u8], kind: u64, fields: &[u64; 8], i: usize) -> bool
+fn is_other_side(book: &[u8], kind: u64, fields: &Fields, i: usize) -> bool
     requires { ⌜ (length (now book) ≡ bookLength) × RequestIn (now fields) × (i < 256) ⌝ }
     ensures { λ r. ⌜ r ≡ otherSide (state (now (book .entry))) kind (now (fields .entry)) i ⌝ }
 {
@@ -114,7 +115,7 @@ fn is_waiting(book: &[u8], i: usize) -> bool
 }
 
 // May the record pair with the row i?
-fn is_equal(book: &[u8], kind: u64, fields: &[u64; 8], i: usize) -> bool
+fn is_equal(book: &[u8], kind: u64, fields: &Fields, i: usize) -> bool
     requires { ⌜ (length (now book) ≡ bookLength) × RequestIn (now fields) × (i < 256) ⌝ }
     ensures { λ r. ⌜ r ≡ isEqual (state (now (book .entry))) kind (now (fields .entry)) i ⌝ }
 {
@@ -126,7 +127,7 @@ fn is_equal(book: &[u8], kind: u64, fields: &[u64; 8], i: usize) -> bool
 }
 
 // The earlier of the best row so far (256 where there is none) and the row i, where the record may pair with that.
-fn earlier(book: &[u8], kind: u64, fields: &[u64; 8], best: usize, i: usize) -> usize
+fn earlier(book: &[u8], kind: u64, fields: &Fields, best: usize, i: usize) -> usize
     requires { ⌜ (length (now book) ≡ bookLength) × RequestIn (now fields) × (best ≤ 256) × (i < 256) ⌝ }
     ensures { λ r. ⌜ r ≡ earlierOf (state (now (book .entry))) kind (now (fields .entry)) best i ⌝ }
 {
@@ -143,7 +144,7 @@ fn earlier(book: &[u8], kind: u64, fields: &[u64; 8], best: usize, i: usize) -> 
 }
 
 // The row of the earliest request that the record may pair with: the one with the lowest number; 256 where there is none.
-pub fn earliest_equal(book: &[u8], kind: u64, fields: &[u64; 8]) -> usize
+pub fn earliest_equal(book: &[u8], kind: u64, fields: &Fields) -> usize
     requires { ⌜ (length (now book) ≡ bookLength) × RequestIn (now fields) ⌝ }
     ensures { λ r. ⌜ r ≡ earliestEqual (state (now (book .entry))) kind (now (fields .entry)) ⌝ }
 {
@@ -228,7 +229,7 @@ fn is_owner(book: &[u8], i: usize, p: u64) -> bool
     false
 }
 
-// Is the row i the participant's request of that number, not ended or settled whole?
+// Is the row i the participant's request of that number, live or settled whole?
 fn is_own_request(book: &[u8], p: u64, number: u64, i: usize) -> bool
     requires { ⌜ (length (now book) ≡ bookLength) × (i < 256) ⌝ }
     ensures { λ r. ⌜ r ≡ isOwnRequest (state (now (book .entry))) p number i ⌝ }

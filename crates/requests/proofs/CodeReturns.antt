@@ -10,9 +10,11 @@ use Rattle.book.specs.Layout.{tolerance, modes, settledAmounts}
 use Rattle.book.specs.State.{State}
 use Rattle.rules.specs.Codes.{fopRules, returnRules, cancelRules}
 use Rattle.rules.specs.Outcome.{Rule, rule, lowest}
+use Rattle.rules.specs.Fields.{giverIn, takerIn, basketOrExposureIn}
+use Rattle.rules.specs.Requests.{isExposureOf}
 use Rattle.rules.specs.Requesting.{ownRequest}
 use Rattle.facts.proofs.Rules.{stops, goes-on}
-use Rattle.request_codes.specs.Rules.{partyRules, settlementRules, takerRules, rowRules, exposureRules, fopNameRules, namesExposure}
+use Rattle.request_codes.specs.Rules.{partyRules, settlementRules, takerRules, rowRules, exposureRules, fopNameRules}
 
 -- 6: a FOP
 module _ (s : State) (r : List ℕ) {t : ℕ} (tq : t ≡ s tolerance 0) where
@@ -47,8 +49,11 @@ module _ (s : State) (r : List ℕ) {t : ℕ} (tq : t ≡ s tolerance 0) where
 
 -- 7: a return
 module _ (s : State) (r : List ℕ) {p : ℕ} (pq : p ≡ lowest (partyRules s r)) where
+  abbrev named : Bool
+  named = isExposureOf s (giverIn r) (takerIn r) (basketOrExposureIn r)
+
   abbrev naming : List Rule
-  naming = rule (not (namesExposure s r)) 12 ∷ rowRules s r
+  naming = rule (not named) 12 ∷ rowRules s r
 
   abbrev dated : List Rule
   dated = settlementRules s r ++ (takerRules s r ++ naming)
@@ -74,7 +79,7 @@ module _ (s : State) (r : List ℕ) {p : ℕ} (pq : p ≡ lowest (partyRules s r
       pub return-taker : (k ≡ 0 → ⊥) → k ≡ lowest (returnRules s r)
       return-taker h = after-days (stops (takerRules s r) naming kq h)
 
-      module _ (kz : k ≡ 0) {b : Bool} (bq : b ≡ namesExposure s r) where
+      module _ (kz : k ≡ 0) {b : Bool} (bq : b ≡ named) where
         after-taker : {x : ℕ} → x ≡ lowest naming → x ≡ lowest (returnRules s r)
         after-taker h = after-days (goes-on (takerRules s r) naming refl kq kz h)
 

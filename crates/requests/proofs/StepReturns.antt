@@ -13,7 +13,7 @@ use Rattle.rules.specs.Requests.{acceptsGiver, partnerOf, freeExposure}
 use Rattle.rules.specs.Requesting.{takerFollows, earliestEqual, pairsNow, needsExposure, withRow, withTaker, withEqual, waiting, rowsEntered, entered, pairEnds, ownRequest, cancelled}
 use Rattle.totals.specs.Totals.{totalsOf}
 use Rattle.request_entry.specs.Entering.{RoomForTwo, lacksExposure, ExposureRoom, withExposure}
-use Rattle.requests.specs.Steps.{Room, PairIn, cancelledPair, Taken}
+use Rattle.requests.specs.Steps.{Room, PairIn, Entered, cancelledPair}
 
 -- a request that pairs: its rows leave the exposures as they are
 module _ (s t : State) (k : ℕ) (r : List ℕ) (key : lacksExposure t k r ≡ lacksExposure s k r) (free : freeExposure t ≡ freeExposure s)
@@ -52,10 +52,8 @@ module _ (s : State) (k : ℕ) (r : List ℕ) {b : Bool} (bq : b ≡ takerFollow
       pub taker-room : Room s k r → ExposureRoom t k r
       taker-room = exposure-room s t k r taker-key taker-free taker-pairs
 
-      pub entered-with-taker : {n : ℕ} {u : State} → n ≡ s nextNumber 0 → u ≡ withExposure t k r → Taken (entered s k r) (record { a = n; b = n + 1; m = 0 }) u
-      unfolding entered
-      entered-with-taker nq uq =
-          record { totals = rw (nq, sym bq ∙ h); state = uq ∙ state-entered s t k r taker-key taker-free taker-pairs taker-rows }
+      pub entered-with-taker : {n : ℕ} {u : State} → n ≡ s nextNumber 0 → u ≡ withExposure t k r → Entered s k r (n + 1) u
+      entered-with-taker nq uq = record { partner-is = rw (nq, sym bq ∙ h); state-is = uq ∙ state-entered s t k r taker-key taker-free taker-pairs taker-rows }
 
   module _ (alone : b ≡ false) {j : ℕ} (jq : j ≡ earliestEqual s k r) where
     module _ (l : j < 256) {t : State} (tq : t ≡ withEqual s k r j) where
@@ -79,17 +77,19 @@ module _ (s : State) (k : ℕ) (r : List ℕ) {b : Bool} (bq : b ≡ takerFollow
       pub equal-room : Room s k r → ExposureRoom t k r
       equal-room = exposure-room s t k r equal-key equal-free equal-pairs
 
-      pub entered-with-equal : {n x : ℕ} {u : State} → n ≡ s nextNumber 0 → x ≡ s numbers j → u ≡ withExposure t k r
-          → Taken (entered s k r) (record { a = n; b = x; m = 0 }) u
-      unfolding entered
-      entered-with-equal nq xq uq =
-          record { totals = rw (nq, xq, sym bq ∙ alone, some-equal, ← jq); state = uq ∙ state-entered s t k r equal-key equal-free equal-pairs equal-rows }
+      pub entered-with-equal : {x : ℕ} {u : State} → x ≡ s numbers j → u ≡ withExposure t k r → Entered s k r x u
+      entered-with-equal xq uq = record { partner-is = rw (xq, sym bq ∙ alone, some-equal, ← jq); state-is = uq ∙ state-entered s t k r equal-key equal-free equal-pairs equal-rows }
 
-    pub entered-waiting : {n : ℕ} {t : State} → n ≡ s nextNumber 0 → 256 ≤ j → t ≡ waiting s k r → Taken (entered s k r) (record { a = n; b = 0; m = 0 }) t
+    pub entered-waiting : {t : State} → 256 ≤ j → t ≡ waiting s k r → Entered s k r 0 t
     unfolding entered
-    entered-waiting nq l tq =
+    entered-waiting l tq =
         let none : ltb (earliestEqual s k r) 256 ≡ false = rw (← jq) (le-ltb j 256 l) in
-        record { totals = rw (nq, sym bq ∙ alone, none); state = rw (sym bq ∙ alone, none, and-false) tq }
+        record { partner-is = rw (sym bq ∙ alone, none); state-is = rw (sym bq ∙ alone, none, and-false) tq }
+
+-- its number and its partner's, which are answered
+pub entered-totals : (s : State) (k : ℕ) (r : List ℕ) {n p : ℕ} {t : State} → n ≡ s nextNumber 0 → Entered s k r p t → record { a = n; b = p; m = 0 } ≡ totalsOf (entered s k r)
+unfolding entered
+entered-totals s k r nq e = rw (nq, e .partner-is)
 
 -- a pair ends
 module _ (s : State) {i j : ℕ} (at : PairIn s i j) {x : ℕ} (xq : x ≡ s cancels j) where

@@ -1,4 +1,4 @@
--- What the steps of kinds 6 to 8 count on, and what they leave.
+-- What the steps of kinds 6 to 8 count on, and what a cancel leaves.
 -- Assumes nothing.
 use mathlib.Core.Path.{_≡_}
 use mathlib.Core.Bool.{true, cond}
@@ -6,12 +6,9 @@ use mathlib.Core.List.{List}
 use Prim.Native.Nat.{ℕ, _<_}
 use Rattle.book.specs.Layout.{givers, takers, cancels, ends}
 use Rattle.book.specs.State.{State, put}
-use Rattle.rules.specs.Outcome.{Step}
 use Rattle.rules.specs.Requests.{partnerOf, freeExposure}
-use Rattle.rules.specs.Requesting.{takerFollows, needsExposure, pairEnds}
+use Rattle.rules.specs.Requesting.{takerFollows, needsExposure, pairedWith, entered, pairEnds}
 use Rattle.request_entry.specs.Entering.{RoomForOne, RoomForTwo}
-use Rattle.totals.specs.Totals.{totalsOf}
-use Rattle.totals.specs.declared.Totals.{Totals}
 
 -- what an accepted request has to hand
 pub record Room (s : State) (k : ℕ) (r : List ℕ) : Type 0 where
@@ -31,7 +28,7 @@ pub record PairIn (s : State) (i j : ℕ) : Type 0 where
 abbrev pub cancelledPair : State → ℕ → State
 cancelledPair s i = cond (pairEnds s i) (put (put (put s cancels i 1) ends i 1) ends (partnerOf s i) 1) (put s cancels i 1)
 
--- a step is taken: its numbers are answered, and its state is left
-pub record Taken (t : Step) (answered : Totals) (after : State) : Type 0 where
-  pub totals : answered ≡ totalsOf t
-  pub state : after ≡ t .state
+-- a request is entered: the number of the one that it is paired with, and what is left
+pub record Entered (s : State) (k : ℕ) (r : List ℕ) (partner : ℕ) (after : State) : Type 0 where
+  pub partner-is : partner ≡ pairedWith s k r
+  pub state-is : after ≡ entered s k r .state

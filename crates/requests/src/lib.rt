@@ -12,7 +12,7 @@ ghost use Rattle.rules.specs.Requesting.{pairEnds, entered, cancelled};
 ghost use Rattle.rules.specs.Sound.{sound};
 ghost use Rattle.totals.specs.Totals.{totalsOf};
 ghost use Rattle.request_rows.specs.Rows.{EntryIn};
-ghost use Rattle.requests.specs.Steps.{cancelledPair, Taken, Room, PairIn};
+ghost use Rattle.requests.specs.Steps.{cancelledPair, Entered, Room, PairIn};
 use book::layout::CANCELS;
 use book::layout::ENDS;
 use book::layout::GIVERS;
@@ -24,10 +24,11 @@ use book::layout::SETTLED_AMOUNTS;
 use book::layout::SIDES;
 use book::layout::TAKERS;
 use book::layout::TOLERANCE;
+use record_kinds::Fields;
 use totals::Totals;
 
 // 6: the code of a FOP.
-pub fn fop_code(book: &[u8], fields: &[u64; 8]) -> u64
+pub fn fop_code(book: &[u8], fields: &Fields) -> u64
     requires { ⌜ (length (now book) ≡ bookLength) × (areLegal 6 (now fields) ≡ true) × (sound (state (now book)) ≡ true) ⌝ }
     ensures { λ r. ⌜ r ≡ lowest (fopRules (state (now (book .entry))) (now (fields .entry))) ⌝ }
 {
@@ -50,7 +51,7 @@ pub fn fop_code(book: &[u8], fields: &[u64; 8]) -> u64
 }
 
 // 7: the code of a return.
-pub fn return_code(book: &[u8], fields: &[u64; 8]) -> u64
+pub fn return_code(book: &[u8], fields: &Fields) -> u64
     requires { ⌜ (length (now book) ≡ bookLength) × (areLegal 7 (now fields) ≡ true) × (sound (state (now book)) ≡ true) ⌝ }
     ensures { λ r. ⌜ r ≡ lowest (returnRules (state (now (book .entry))) (now (fields .entry))) ⌝ }
 {
@@ -72,33 +73,36 @@ pub fn return_code(book: &[u8], fields: &[u64; 8]) -> u64
     request_codes::row_code(book, fields)
 }
 
-// 6 and 7: enters a request, paired with the taker request made for it, or with the earliest equal one, or left to wait.
-fn enter(book: &mut [u8], kind: u64, fields: &[u64; 8]) -> Totals
+// Enters a request's rows, paired with the taker request made for it, or with the earliest equal one, or left to wait. The number of the
+// request that it is paired with, 0 where it waits.
+fn enter_rows(book: &mut [u8], kind: u64, fields: &Fields) -> u64
     requires { ⌜ (length (now book) ≡ bookLength) × EntryIn kind (now fields) × Room (state (now book)) kind (now fields) ⌝ }
-    ensures { λ r. ⌜ Taken (entered (state (now (book .entry))) kind (now (fields .entry))) r (state (now (book .exit))) ⌝ }
+    ensures { λ r. ⌜ Entered (state (now (book .entry))) kind (now (fields .entry)) r (state (now (book .exit))) ⌝ }
 {
-    let number = book::get(book, NEXT_NUMBER, 0);
     if request_search::does_taker_follow(book, fields) {
+        let number = book::get(book, NEXT_NUMBER, 0);
         request_entry::enter_with_taker(book, kind, fields);
         request_entry::join_exposure(book, kind, fields);
-        return Totals {
-            a: number,
-            b: number + 1,
-            m: 0,
-        };
+        return number + 1;
     }
     let j = request_search::earliest_equal(book, kind, fields);
     if 256 <= j {
         request_entry::enter_waiting(book, kind, fields);
-        return Totals {
-            a: number,
-            b: 0,
-            m: 0,
-        };
+        return 0;
     }
     let partner = book::get(book, NUMBERS, j);
     request_entry::enter_with_equal(book, kind, fields, j);
     request_entry::join_exposure(book, kind, fields);
+    partner
+}
+
+// 6 and 7: enters a request, which gets the next number.
+fn enter(book: &mut [u8], kind: u64, fields: &Fields) -> Totals
+    requires { ⌜ (length (now book) ≡ bookLength) × EntryIn kind (now fields) × Room (state (now book)) kind (now fields) ⌝ }
+    ensures { λ r. ⌜ (r ≡ totalsOf (entered (state (now (book .entry))) kind (now (fields .entry)))) × (state (now (book .exit)) ≡ entered (state (now (book .entry))) kind (now (fields .entry)) .state) ⌝ }
+{
+    let number = book::get(book, NEXT_NUMBER, 0);
+    let partner = enter_rows(book, kind, fields);
     Totals {
         a: number,
         b: partner,
@@ -107,7 +111,7 @@ fn enter(book: &mut [u8], kind: u64, fields: &[u64; 8]) -> Totals
 }
 
 // 6: enters a FOP.
-pub fn enter_fop(book: &mut [u8], fields: &[u64; 8]) -> Totals
+pub fn enter_fop(book: &mut [u8], fields: &Fields) -> Totals
     requires { ⌜ (length (now book) ≡ bookLength) × (areLegal 6 (now fields) ≡ true) × (sound (state (now book)) ≡ true) × (lowest (fopRules (state (now book)) (now fields)) ≡ 0) ⌝ }
     ensures { λ r. ⌜ (r ≡ totalsOf (entered (state (now (book .entry))) 6 (now (fields .entry)))) × (state (now (book .exit)) ≡ entered (state (now (book .entry))) 6 (now (fields .entry)) .state) ⌝ }
 {
@@ -115,7 +119,7 @@ pub fn enter_fop(book: &mut [u8], fields: &[u64; 8]) -> Totals
 }
 
 // 7: enters a return.
-pub fn enter_return(book: &mut [u8], fields: &[u64; 8]) -> Totals
+pub fn enter_return(book: &mut [u8], fields: &Fields) -> Totals
     requires { ⌜ (length (now book) ≡ bookLength) × (areLegal 7 (now fields) ≡ true) × (sound (state (now book)) ≡ true) × (lowest (returnRules (state (now book)) (now fields)) ≡ 0) ⌝ }
     ensures { λ r. ⌜ (r ≡ totalsOf (entered (state (now (book .entry))) 7 (now (fields .entry)))) × (state (now (book .exit)) ≡ entered (state (now (book .entry))) 7 (now (fields .entry)) .state) ⌝ }
 {
@@ -123,7 +127,7 @@ pub fn enter_return(book: &mut [u8], fields: &[u64; 8]) -> Totals
 }
 
 // 8: the code of a cancel.
-pub fn cancel_code(book: &[u8], fields: &[u64; 8]) -> u64
+pub fn cancel_code(book: &[u8], fields: &Fields) -> u64
     requires { ⌜ (length (now book) ≡ bookLength) × (areLegal 8 (now fields) ≡ true) × (sound (state (now book)) ≡ true) ⌝ }
     ensures { λ r. ⌜ r ≡ lowest (cancelRules (state (now (book .entry))) (now (fields .entry))) ⌝ }
 {
@@ -172,7 +176,7 @@ fn cancel_paired(book: &mut [u8], i: usize, j: usize)
 }
 
 // 8: cancels a request of its owner.
-pub fn cancel(book: &mut [u8], fields: &[u64; 8]) -> Totals
+pub fn cancel(book: &mut [u8], fields: &Fields) -> Totals
     requires { ⌜ (length (now book) ≡ bookLength) × (areLegal 8 (now fields) ≡ true) × (sound (state (now book)) ≡ true) × (lowest (cancelRules (state (now book)) (now fields)) ≡ 0) ⌝ }
     ensures { λ r. ⌜ (r ≡ totalsOf (cancelled (state (now (book .entry))) (now (fields .entry)))) × (state (now (book .exit)) ≡ cancelled (state (now (book .entry))) (now (fields .entry)) .state) ⌝ }
 {

@@ -3,7 +3,6 @@
 use mathlib.Core.Path.{_≡_, refl, sym, _∙_}
 use mathlib.Core.Bool.{Bool, true}
 use mathlib.Core.List.{List}
-use mathlib.Core.Logic.{⊎-elim}
 use Prim.Native.Nat.{ℕ, zero, suc, _+_, _*_, _-_, _/_, _%_, _≤_, _<_}
 use native.Mathlib.Nat.{div-add-mod, div-lt-iff-lt-mul, mod-lt, mul-add, mul-comm, mul-le-mul-left}
 use native.Mathlib.Decide.{ℕ-discrete}
@@ -15,22 +14,13 @@ use lib.Seq.{getD-take, getD-drop}
 use borrow.Author.Tests.{eq-eqb, eqb-true}
 use Rattle.laws.specs.Numbers.{numberAt}
 use Rattle.laws.specs.Search.{all}
-use Rattle.laws.proofs.Cases.{either, clash}
 use Rattle.laws.proofs.Least.{all-at}
 use Rattle.book.specs.Layout.{bookLength, tableCount, rowsOf, widthOf, baseOf}
 use Rattle.book.specs.State.{state}
 use Rattle.book.proofs.Cells.{state-at}
 use Rattle.book.proofs.Places.{rows-apart, tables-inside, width-eight}
-use Rattle.facts.proofs.Facts.{all-of}
+use Rattle.facts.proofs.Truth.{agree, all-of}
 use Rattle.row_tests.specs.Bytes.{emptyByte, emptyBytes, emptyRows}
-
--- two tests of which each implies the other
-pub agree : {a b : Bool} → (a ≡ true → b ≡ true) → (b ≡ true → a ≡ true) → a ≡ b
-agree {a} {b} f g =
-    ⊎-elim
-    (λ p. p ∙ sym (f p))
-    (λ p. ⊎-elim (λ q. clash (g q) p) (λ q. p ∙ sym q) (either b))
-    (either a)
 
 -- the number that has seen the bytes below k is 0 where all of them are
 pub record Seen (b : List ℕ) (k seen : ℕ) : Type 0 where

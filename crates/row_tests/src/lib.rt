@@ -5,9 +5,9 @@ ghost use lib.ListN.{length};
 ghost use lib.Dec.{eqb};
 ghost use Rattle.book.specs.Layout.{bookLength, tableCount, rowsOf};
 ghost use Rattle.book.specs.State.{state};
-ghost use Rattle.rules.specs.ByRow.{same, alike, blank};
+ghost use Rattle.rules.specs.ByRow.{same};
 ghost use Rattle.row_tests.specs.Bytes.{emptyBytes, emptyRows};
-ghost use Rattle.row_tests.specs.Rows.{InRows};
+ghost use Rattle.row_tests.specs.Rows.{InRows, alike, blank};
 use book::layout;
 
 // Are all of some bytes 0? There is no way out on the way, so that the compiler takes sixteen bytes at a time.

@@ -7,6 +7,7 @@ use mathlib.Core.List.{List, [], _∷_, _++_}
 use Prim.Native.Nat.{ℕ, _+_, _*_, _-_, _%_}
 use lib.Dec.{eqb, leb, ltb}
 use lib.ListN.{getD}
+use Rattle.limits.specs.Limits.{greatestNext, greatestNominal}
 use Rattle.laws.specs.Search.{count}
 use Rattle.calendar.specs.Target.{lastDay, openDay, nextOpenDay}
 use Rattle.book.specs.Layout.{today, tolerance, nextNumber, lots, numbers, settledAmounts, exposureGivers, accounts, positions}
@@ -18,7 +19,7 @@ use Rattle.rules.specs.Requests.{acceptsGiver, isInUse, isExposureOf, fr
 use Rattle.rules.specs.Requesting.{rowsNeeded, needsExposure, ownRequest}
 use Rattle.rules.specs.Stock.{participantSetUp, securitySetUp, basketSetUp, holding}
 
--- 5: "participant, security or basket not set up"
+-- code 5: "participant, security or basket not set up"
 abbrev pub noParticipant : State → ℕ → Rule
 noParticipant s p = rule (not (participantSetUp s p)) 5
 
@@ -28,15 +29,15 @@ noSecurity s i = rule (not (securitySetUp s i)) 5
 abbrev pub noBasket : State → ℕ → Rule
 noBasket s b = rule (not (basketSetUp s b)) 5
 
--- 7: "any day named .. not open or above 146,096"
+-- code 7: "any day named .. not open or above 146,096"
 abbrev pub dayNotOpen : ℕ → Rule
 dayNotOpen d = rule (not (openDay d)) 7
 
--- 0: a day that is not open
+-- kind 0: a day that is not open
 unfoldable pub openingRules : List ℕ → List Rule
 openingRules r = dayNotOpen (openingDay r) ∷ []
 
--- 1: "price with another lot"; quote day not open; "quote after today"
+-- kind 1: "price with another lot"; quote day not open; "quote after today"
 unfoldable pub priceRules : State → List ℕ → List Rule
 priceRules s r =
     rule (securitySetUp s (pricedSecurity r) && not (eqb (s lots (pricedSecurity r)) (priceLot r))) 6
@@ -44,19 +45,19 @@ priceRules s r =
     ∷ rule (ltb (s today 0) (quoteDayIn r)) 7
     ∷ []
 
--- 3: "basket again"
+-- kind 3: "basket again"
 unfoldable pub basketRules : State → List ℕ → List Rule
 basketRules s r = rule (basketSetUp s (basketIn r)) 6 ∷ []
 
--- 4: not set up; "deposit takes account plus positions above 500,000,000"
+-- kind 4: not set up; "deposit takes account plus positions above 500,000,000"
 unfoldable pub depositRules : State → List ℕ → List Rule
 depositRules s r =
     noParticipant s (accountOwner r)
     ∷ noSecurity s (accountSecurity r)
-    ∷ rule (ltb 500000000 (holding s (accountOwner r) (accountSecurity r) + nominalIn r)) 11
+    ∷ rule (ltb greatestNominal (holding s (accountOwner r) (accountSecurity r) + nominalIn r)) 11
     ∷ []
 
--- 5: not set up; "more than the account .. holds"
+-- kind 5: not set up; "more than the account .. holds"
 unfoldable pub withdrawalRules : State → List ℕ → List Rule
 withdrawalRules s r =
     noParticipant s (accountOwner r)
@@ -64,19 +65,19 @@ withdrawalRules s r =
     ∷ rule (ltb (s accounts (64 * accountOwner r + accountSecurity r)) (nominalIn r)) 10
     ∷ []
 
--- 14: "too few request rows, or numbers above 999,999,999"
+-- code 14: "too few request rows, or numbers above 999,999,999"
 abbrev pub tooFewRows : State → List ℕ → Rule
-tooFewRows s r = rule (ltb (count (λ i. eqb (s numbers i) 0) 256 0) (rowsNeeded s r) || ltb 1000000000 (s nextNumber 0 + rowsNeeded s r)) 14
+tooFewRows s r = rule (ltb (count (λ i. eqb (s numbers i) 0) 256 0) (rowsNeeded s r) || ltb greatestNext (s nextNumber 0 + rowsNeeded s r)) 14
 
--- 8: "giver equals taker"
+-- code 8: "giver equals taker"
 abbrev pub giverIsTaker : List ℕ → Rule
 giverIsTaker r = rule (eqb (giverIn r) (takerIn r)) 8
 
--- 9: "taker's own request where it accepts that giver automatically"
+-- code 9: "taker's own request where it accepts that giver automatically"
 abbrev pub takerNeedsNone : State → List ℕ → Rule
 takerNeedsNone s r = rule (eqb (sideIn r) takerSide && acceptsGiver s (takerIn r) (giverIn r)) 9
 
--- 6: the amount is from the tolerance on; "settlement before today; closing not after settlement"; 15: "pairing needs an exposure row and none is free"
+-- kind 6: the amount is from the tolerance on; "settlement before today; closing not after settlement"; code 15: "pairing needs an exposure row and none is free"
 unfoldable pub fopRules : State → List ℕ → List Rule
 fopRules s r =
     rule (ltb (amountIn r) (s tolerance 0)) 4
@@ -92,7 +93,7 @@ fopRules s r =
     ∷ rule (needsExposure s fopKind r && eqb (freeExposure s) 64) 15
     ∷ []
 
--- 7: 12: "no used exposure of that giver (and taker)"
+-- kind 7; code 12: "no used exposure of that giver (and taker)"
 unfoldable pub returnRules : State → List ℕ → List Rule
 returnRules s r =
     noParticipant s (giverIn r)
@@ -105,7 +106,7 @@ returnRules s r =
     ∷ tooFewRows s r
     ∷ []
 
--- 8: "no such live request of that owner"; "cancel of a request settled in part or whole": a whole settled row gives its owner 13
+-- kind 8: "no such live request of that owner"; "cancel of a request settled in part or whole": a whole settled row gives its owner 13
 unfoldable pub cancelRules : State → List ℕ → List Rule
 cancelRules s r =
     noParticipant s (cancelOwner r)
@@ -113,7 +114,7 @@ cancelRules s r =
     ∷ rule (not (eqb (s settledAmounts (ownRequest s (cancelOwner r) (cancelNumber r))) 0)) 13
     ∷ []
 
--- 11: "recall of a set-up security not in its whole lots"; "For kind 11, 12 comes before 10"
+-- kind 11: "recall of a set-up security not in its whole lots"; "For kind 11, 12 comes before 10"
 unfoldable pub recallRules : State → List ℕ → List Rule
 recallRules s r =
     rule (securitySetUp s (recallSecurity r) && not (eqb (recallNominal r % s lots (recallSecurity r)) 0)) 4
@@ -124,11 +125,11 @@ recallRules s r =
     ∷ rule (not (recallAccepted s r)) 16
     ∷ []
 
--- 12: "no next day"
+-- kind 12: "no next day"
 unfoldable pub nextDayRules : State → List Rule
 nextDayRules s = rule (ltb lastDay (nextOpenDay (s today 0))) 7 ∷ []
 
--- the rules of the kinds 0 to 12; 2 participant, 9 settle and 10 mark have none
+-- the rules of the kinds 0 to 12; 2 participant, 9 settle and 10 mark have none: a list, like a map, may have bits of those not set up
 abbrev pub rulesOf : State → List ℕ → List (List Rule)
 rulesOf s r =
     openingRules r
@@ -146,7 +147,7 @@ rulesOf s r =
     ∷ nextDayRules s
     ∷ []
 
--- 3: a kind that this list does not have
+-- code 3: a kind that this list does not have
 abbrev pub unknownKind : List Rule
 unknownKind = rule true 3 ∷ []
 
@@ -161,7 +162,7 @@ precedenceOf k =
     ∷ cond (eqb k recallKind) (12 ∷ 10 ∷ 11 ∷ []) (10 ∷ 11 ∷ 12 ∷ [])
     ++ (13 ∷ 14 ∷ 15 ∷ 16 ∷ [])
 
--- the rules' codes stand in an order: each is its first code, or one of the codes after it
+-- going down the rules, their codes never go back in the order
 abbrev pub inPrecedence : List ℕ → List Rule → Bool
 inPrecedence [] [] = true
 inPrecedence [] (r ∷ rs) = false

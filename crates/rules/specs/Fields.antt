@@ -32,6 +32,9 @@ automatic = 0
 abbrev pub byList : ℕ
 byList = 1
 
+abbrev pub byHand : ℕ
+byHand = 2
+
 abbrev pub storedMode : ℕ → ℕ
 storedMode mode = mode + 1
 

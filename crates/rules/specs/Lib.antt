@@ -11,4 +11,5 @@ pub mod Requests
 pub mod SetUp
 pub mod Settlement
 pub mod Sound
+pub mod SoundLayout
 pub mod Stock

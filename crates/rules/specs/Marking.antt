@@ -8,12 +8,13 @@ use lib.ListN.{set, replicate}
 use Rattle.laws.specs.Filled.{filled}
 use Rattle.laws.specs.Search.{all, count}
 use Rattle.laws.specs.Sum.{sum}
-use Rattle.book.specs.Layout.{tolerance, positions, inUse, exposureAmounts}
+use Rattle.book.specs.Layout.{tolerance, positions, exposureAmounts}
 use Rattle.book.specs.State.{State}
 use Rattle.picking.specs.Pick.{butNot}
 use Rattle.picking.specs.declared.Outcome.{Outcome}
 use Rattle.rules.specs.Outcome.{Step}
 use Rattle.rules.specs.Fields.{recallExposure, recallSecurity, recallNominal}
+use Rattle.rules.specs.Requests.{isInUse}
 use Rattle.rules.specs.Stock.{valueOf, eligibleFor, pickFor, freeFor, pledge, giveBack}
 
 -- a step on each used exposure below n, by rising number
@@ -21,7 +22,7 @@ unfoldable pub onExposures : (State → ℕ → State) → ℕ → State → Sta
 onExposures step zero s = s
 onExposures step (suc e) s =
     let t = onExposures step e s in
-    cond (eqb (t inUse e) 1) (step t e) t
+    cond (isInUse t e) (step t e) t
 
 -- "give back ineligible securities": the whole nominal of each
 abbrev pub ineligibleOf : State → ℕ → List ℕ
@@ -38,7 +39,7 @@ excessBack s e = giveBack s e (freeFor s e (s exposureAmounts e) .nominals)
 unfoldable pub shortfallIn : State → ℕ → State
 shortfallIn s e = cond (ltb (valueOf s e) (s exposureAmounts e)) (pledge s e (pickFor s e (eligibleFor s e) (s exposureAmounts e - valueOf s e) .nominals)) s
 
--- the three passes, each over all exposures
+-- the first two passes: "on all exposures give back ineligible securities; then on all Free"
 unfoldable pub givenBack : State → State
 givenBack s = onExposures excessBack 64 (onExposures ineligibleBack 64 s)
 
@@ -52,7 +53,7 @@ moved s t e = not (all (λ i. eqb (s positions (64 * e + i)) (t positions (64 * 
 
 -- what is missing of a used exposure
 abbrev pub missingOf : State → ℕ → ℕ
-missingOf s e = cond (eqb (s inUse e) 1) (s exposureAmounts e - valueOf s e) 0
+missingOf s e = cond (isInUse s e) (s exposureAmounts e - valueOf s e) 0
 
 -- 10: "A: exposures that gave back, B: exposures that took in, M: total missing after."
 unfoldable pub marked : State → Step

@@ -42,7 +42,8 @@ pub record Rule : Type 0 where
 abbrev pub rule : Bool → ℕ → Rule
 rule t c = record { applies = t; code = c }
 
--- "The lowest that applies is given": the first of the list that does, 0 where none does
+-- "The lowest that applies is given": the first of the list that does, since the rules stand in the order of precedence
+-- (RulesInPrecedence); 0 where none does
 abbrev pub lowest : List Rule → ℕ
 lowest [] = 0
 lowest (r ∷ rs) = cond (r .applies) (r .code) (lowest rs)

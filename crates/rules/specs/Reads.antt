@@ -1,7 +1,8 @@
 -- The reads: "an account's or position's nominal of one security, an exposure, a request by its number, or a basket".
 -- "A read refuses with 1, 2, 4 or 5 (a row not in use counts as 5)." A read changes no byte.
 -- Assumes nothing.
-use mathlib.Core.Bool.{Bool, not, _&&_, _||_, cond}
+use mathlib.Core.Path.{_≡_}
+use mathlib.Core.Bool.{Bool, true, not, _&&_, _||_, cond}
 use mathlib.Core.List.{List, [], _∷_, _++_}
 use Prim.Native.Nat.{ℕ, _+_, _*_}
 use lib.Dec.{eqb, leb}
@@ -10,6 +11,7 @@ use Rattle.laws.specs.Bits.{hasBit}
 use Rattle.laws.specs.Search.{least, count}
 use Rattle.book.specs.Layout.{bookLength, rowsOf, lots, modes, maps, numbers, partners, inUse, exposureAmounts, accounts, positions, basketTables, requestTables, keyTables}
 use Rattle.book.specs.State.{State, state, rowIn}
+use Rattle.rules.specs.Codes.{inPrecedence}
 use Rattle.rules.specs.Outcome.{Rule, rule, lowest}
 use Rattle.rules.specs.Requests.{isUsed, isPaired, partnerOf, isInUse}
 use Rattle.rules.specs.Sound.{sound}
@@ -70,3 +72,7 @@ unfoldable pub readAnswer : List ℕ → Read → List ℕ
 readAnswer book q =
     let values = readValues (state book) q in
     readCode book q ∷ cond (eqb (readCode book q) 0) values (replicate (length values) 0)
+
+-- "A read refuses with 1, 2, 4 or 5": its own rules stand in that order
+abbrev pub ReadRulesInPrecedence : Type 0
+ReadRulesInPrecedence = (s : State) (q : Read) → inPrecedence (4 ∷ 5 ∷ []) (readRules s q) ≡ true

@@ -1,13 +1,13 @@
 -- Steps 6 to 8: FOP, return, cancel.
 -- Assumes nothing.
 use mathlib.Core.Bool.{Bool, not, _&&_, _||_, cond}
-use mathlib.Core.List.{List, [], _∷_}
+use mathlib.Core.List.{List, [], _∷_, _++_}
 use Prim.Native.Nat.{ℕ, _+_}
 use lib.Dec.{eqb, ltb}
 use Rattle.laws.specs.Search.{least, leastBy}
-use Rattle.book.specs.Layout.{nextNumber, numbers, requestKinds, sides, givers, takers, basketsOrExposures, amounts, settlements, closings, references, partners, pairPartials, cancels, ends, inUse, termTables, keyTables}
+use Rattle.book.specs.Layout.{nextNumber, numbers, requestKinds, sides, givers, takers, partners, pairPartials, cancels, ends, termTables, requestTables, exposureTables}
 use Rattle.book.specs.State.{State, put, putRow, rowIs}
-use Rattle.rules.specs.Fields.{fopKind, giverSide, sideIn, giverIn, takerIn, basketOrExposureIn, amountIn, settlementIn, closingIn, referenceIn, termsIn, cancelOwner, cancelNumber}
+use Rattle.rules.specs.Fields.{fopKind, giverSide, takerSide, sideIn, giverIn, takerIn, basketOrExposureIn, closingIn, referenceIn, termsIn, cancelOwner, cancelNumber}
 use Rattle.rules.specs.Outcome.{Step, silent, given}
 use Rattle.rules.specs.Requests.{isUsed, isPaired, partnerOf, isWhole, isLive, isOwner, acceptsGiver, allowPartial, exposureWith, freeExposure, freeRow}
 
@@ -40,26 +40,15 @@ exposureOf s r = exposureWith s (giverIn r) (takerIn r) (basketOrExposureIn r) (
 abbrev pub needsExposure : State → ℕ → List ℕ → Bool
 needsExposure s k r = eqb k fopKind && (pairsNow s k r && eqb (exposureOf s r) 64)
 
--- the exposure row e given out, under the key of the record
+-- the exposure row e given out: in use, under the key of the record, of amount 0
 abbrev pub exposureGiven : State → List ℕ → ℕ → State
-exposureGiven s r e = putRow s (inUse ∷ keyTables) e (1 ∷ giverIn r ∷ takerIn r ∷ basketOrExposureIn r ∷ closingIn fopKind r ∷ [])
+exposureGiven s r e = putRow s exposureTables e (1 ∷ giverIn r ∷ takerIn r ∷ basketOrExposureIn r ∷ closingIn fopKind r ∷ 0 ∷ [])
 
--- a row with the record's fields, a number, a side, a partner's mark (0 for none) and the pair's partial mark
+-- a row given out: a number, the record's fields, a side, a partner's mark (0 for none) and the pair's partial mark; it has settled nothing,
+-- no cancel is noted on it, and it has not ended
 unfoldable pub withRow : State → ℕ → List ℕ → ℕ → ℕ → ℕ → ℕ → ℕ → State
 withRow s k r i number side partner partial =
-    put (put (put (put (put (put (put (put (put (put (put (put s
-    numbers i number)
-    requestKinds i k)
-    sides i side)
-    givers i (giverIn r))
-    takers i (takerIn r))
-    basketsOrExposures i (basketOrExposureIn r))
-    amounts i (amountIn r))
-    settlements i (settlementIn r))
-    closings i (closingIn k r))
-    references i (referenceIn k r))
-    partners i partner)
-    pairPartials i partial
+    putRow s requestTables i (number ∷ k ∷ side ∷ (termsIn k r ++ (referenceIn k r ∷ 0 ∷ partner ∷ partial ∷ 0 ∷ 0 ∷ [])))
 
 -- "both parties allowed partial when they paired"
 abbrev pub partialMark : State → List ℕ → ℕ
@@ -72,7 +61,7 @@ withTaker s k r =
     let i = freeRow s in
     let j = freeRow (put s numbers i n) in
     let mark = partialMark s r in
-    put (withRow (withRow s k r i n 0 (j + 1) mark) k r j (n + 1) 1 (i + 1) mark) nextNumber 0 (n + 2)
+    put (withRow (withRow s k r i n giverSide (j + 1) mark) k r j (n + 1) takerSide (i + 1) mark) nextNumber 0 (n + 2)
 
 -- the row of a request that pairs with the row j, and of one that waits
 unfoldable pub withEqual : State → ℕ → List ℕ → ℕ → State
@@ -106,9 +95,13 @@ entered s k r =
       events = cond (needsExposure s k r) (given e ∷ []) [];
     }
 
--- the owner's request of that number that has not ended, or has settled whole; 256 where there is none
+-- 12: "such live request of that owner", or one that has settled whole: "a whole settled row gives its owner 13 until day change"
+abbrev pub isOwnRequest : State → ℕ → ℕ → ℕ → Bool
+isOwnRequest s p n i = isUsed s i && (eqb (s numbers i) n && ((isLive s i || isWhole s i) && isOwner s i p))
+
+-- its row, 256 where there is none
 abbrev pub ownRequest : State → ℕ → ℕ → ℕ
-ownRequest s p n = least (λ i. isUsed s i && (eqb (s numbers i) n && ((eqb (s ends i) 0 || isWhole s i) && isOwner s i p))) 256 0
+ownRequest s p n = least (isOwnRequest s p n) 256 0
 
 -- "when both owners have cancelled, or the giver alone where the taker now accepts it automatically"
 abbrev pub pairEnds : State → ℕ → Bool

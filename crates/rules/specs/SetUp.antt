@@ -27,7 +27,7 @@ enrolled s r =
     let profile = storedMode (modeIn r) ∷ listIn r ∷ partialIn r ∷ [] in
     silent (cond (participantSetUp s p) (putRow s waitingTables p profile) (putRow s profileTables p profile))
 
--- 3: "a basket never changes"
+-- 3: "a basket never changes", since "basket again" is refused
 unfoldable pub basketMade : State → List ℕ → Step
 basketMade s r = silent (putRow s basketTables (basketIn r) (mapIn r ∷ greatestAgeIn r ∷ []))
 

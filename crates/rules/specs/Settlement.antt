@@ -1,37 +1,30 @@
--- Step 9: settle.
+-- Step 9: settle. A step is carried along: A counts the FOPs changed, B the returns changed, M the cents settled by both.
 -- Assumes nothing.
-use mathlib.Core.Bool.{Bool, _&&_, cond}
+use mathlib.Core.Bool.{Bool, _&&_, _||_, cond}
 use mathlib.Core.List.{List, [], _∷_, _++_}
-use Prim.Native.Nat.{ℕ, zero, suc, _+_, _*_, _-_, min}
+use Prim.Native.Nat.{ℕ, _+_, _-_, min}
 use lib.Dec.{eqb, leb, ltb}
-use Rattle.laws.specs.Search.{leastBy}
+use Rattle.limits.specs.Limits.{greatestExposure}
+use Rattle.laws.specs.Lists.{those, inOrder}
 use Rattle.book.specs.Layout.{today, tolerance, numbers, requestKinds, basketsOrExposures, settlements, settledAmounts, pairPartials, exposureAmounts}
 use Rattle.book.specs.State.{State, put}
+use Rattle.picking.specs.declared.Outcome.{Outcome}
 use Rattle.rules.specs.Fields.{fopKind, returnKind}
-use Rattle.rules.specs.Outcome.{Step, Event, settled, returned}
+use Rattle.rules.specs.Outcome.{Step, silent, settled, returned}
 use Rattle.rules.specs.Requests.{isLive, isPaired, partnerOf, restOf, exposureOfFop}
 use Rattle.rules.specs.Stock.{eligibleFor, pickFor, freeFor, pledge, giveBack}
 
--- on the way: the state, FOPs and returns changed, cents settled, and what the ledger is told
-pub record Settling : Type 0 where
-  pub state : State
-  pub fops : ℕ
-  pub returns : ℕ
-  pub cents : ℕ
-  pub events : List Event
+-- "live pairs due today or earlier", each by its later request: a pair is made when its later request enters
+unfoldable pub isDue : State → ℕ → Bool
+isDue s i = isLive s i && (isPaired s i && (ltb (s numbers (partnerOf s i)) (s numbers i) && leb (s settlements i) (s today 0)))
 
--- "then by settlement date, then by pairing order": a pair is made when its later request enters
-abbrev pub orderOf : State → ℕ → ℕ
-orderOf s i = s settlements i * 4294967296 + s numbers i
+-- "then by settlement date, then by pairing order"
+unfoldable pub settlesBefore : State → ℕ → ℕ → Bool
+settlesBefore s i j = ltb (s settlements i) (s settlements j) || (eqb (s settlements i) (s settlements j) && ltb (s numbers i) (s numbers j))
 
--- "live pairs due today or earlier", of one kind, by their later request, that come after the last one tried
-abbrev pub isDue : State → ℕ → ℕ → ℕ → Bool
-isDue s kind last i =
-    isLive s i
-    && (isPaired s i && (eqb (s requestKinds i) kind && (ltb (s numbers (partnerOf s i)) (s numbers i) && (leb (s settlements i) (s today 0) && ltb last (orderOf s i)))))
-
-abbrev pub nextDue : State → ℕ → ℕ → ℕ
-nextDue s kind last = leastBy (isDue s kind last) (orderOf s) 256 256
+-- the due pairs of one kind, in their order
+unfoldable pub dueRows : State → ℕ → List ℕ
+dueRows s kind = inOrder (settlesBefore s) (those (λ i. eqb (s requestKinds i) kind && isDue s i) 256)
 
 -- both rows of a pair have settled so much more
 abbrev pub bothSettled : State → ℕ → ℕ → State
@@ -49,53 +42,54 @@ returnSettled s i =
     let lower = put (bothSettled s i x) exposureAmounts e (s exposureAmounts e - x) in
     giveBack lower e (freeFor lower e (s exposureAmounts e - x) .nominals)
 
--- "B: returns changed, M: cents settled": a return that settles nothing changes nothing
-unfoldable pub settleReturn : Settling → ℕ → Settling
+-- "B: returns changed": a return that settles nothing changes nothing
+unfoldable pub settleReturn : Step → ℕ → Step
 settleReturn w i =
     let s = w .state in
     let x = returnAmount s i in
     cond (eqb x 0) w
-    (record { state = returnSettled s i; fops = w .fops; returns = w .returns + 1; cents = w .cents + x; events = w .events ++ (returned (s basketsOrExposures i) x ∷ []) })
+    (record { a = w .a; b = w .b + 1; m = w .m + x; state = returnSettled s i; events = w .events ++ (returned (s basketsOrExposures i) x ∷ []) })
 
--- "A FOP Picks its rest: if the value found falls short by less than the tolerance, the whole rest settles; else, if both parties
--- allowed partial when they paired and something was found, the value found settles; else nothing moves."
--- "A FOP whose rest would take the exposure above 10^13 waits."
-abbrev pub found : State → ℕ → ℕ
-found s i = pickFor s (exposureOfFop s i) (eligibleFor s (exposureOfFop s i)) (restOf s i) .value
+-- what becomes of a FOP
+pub data FopCase : Type 0 where
+  waits : FopCase
+  whole : FopCase
+  part : FopCase
+  nothing : FopCase
 
--- what a FOP settles: 0 where it waits or nothing moves
-unfoldable pub fopAmount : State → ℕ → ℕ
-fopAmount s i =
-    cond (ltb 10000000000000 (s exposureAmounts (exposureOfFop s i) + restOf s i)) 0
-    (cond (ltb (restOf s i - found s i) (s tolerance 0)) (restOf s i)
-    (cond (eqb (s pairPartials i) 1) (found s i) 0))
+-- "A FOP whose rest would take the exposure above 10^13 waits"; "if the value found falls short by less than the tolerance, the whole
+-- rest settles; else, if both parties allowed partial when they paired and something was found, the value found settles; else nothing moves"
+unfoldable pub fopCase : State → ℕ → ℕ → FopCase
+fopCase s i found =
+    cond (ltb greatestExposure (s exposureAmounts (exposureOfFop s i) + restOf s i)) waits
+    (cond (ltb (restOf s i - found) (s tolerance 0)) whole
+    (cond (eqb (s pairPartials i) 1 && ltb 0 found) part nothing))
 
--- "The exposure grows by what settles."
-unfoldable pub fopSettled : State → ℕ → State
-fopSettled s i =
+-- x settles with what was picked: "The exposure grows by what settles."
+unfoldable pub fopSettles : Step → ℕ → ℕ → Outcome → Step
+fopSettles w i x pick =
+    let s = w .state in
     let e = exposureOfFop s i in
-    let x = fopAmount s i in
-    pledge (put (bothSettled s i x) exposureAmounts e (s exposureAmounts e + x)) e (pickFor s e (eligibleFor s e) (restOf s i) .nominals)
+    record { a = w .a + 1; b = w .b; m = w .m + x; state = pledge (put (bothSettled s i x) exposureAmounts e (s exposureAmounts e + x)) e (pick .nominals); events = w .events ++ (settled e x ∷ []) }
 
--- "A: FOPs changed, M: cents settled": a FOP that settles nothing changes nothing
-unfoldable pub settleFop : Settling → ℕ → Settling
+-- "A FOP Picks its rest": one Pick, then by case
+unfoldable pub settleFop : Step → ℕ → Step
 settleFop w i =
     let s = w .state in
-    let x = fopAmount s i in
-    cond (eqb x 0) w
-    (record { state = fopSettled s i; fops = w .fops + 1; returns = w .returns; cents = w .cents + x; events = w .events ++ (settled (exposureOfFop s i) x ∷ []) })
+    let e = exposureOfFop s i in
+    let pick = pickFor s e (eligibleFor s e) (restOf s i) in
+    elim (fopCase s i (pick .value)) [
+      | waits ↦ w
+      | whole ↦ fopSettles w i (restOf s i) pick
+      | part ↦ fopSettles w i (pick .value) pick
+      | nothing ↦ w
+    ]
 
--- the pairs of one kind in their order, each once: at most one for each row
-unfoldable pub settleAll : ℕ → (Settling → ℕ → Settling) → ℕ → ℕ → Settling → Settling
-settleAll kind settle zero last w = w
-settleAll kind settle (suc n) last w =
-    let i = nextDue (w .state) kind last in
-    cond (eqb i 256) w (settleAll kind settle n (orderOf (w .state) i) (settle w i))
+-- one pair after the other
+unfoldable pub settleEach : (Step → ℕ → Step) → List ℕ → Step → Step
+settleEach settle [] w = w
+settleEach settle (i ∷ is) w = settleEach settle is (settle w i)
 
--- "returns before FOPs"
-unfoldable pub allSettled : State → Settling
-allSettled s = settleAll fopKind settleFop 256 0 (settleAll returnKind settleReturn 256 0 (record { state = s; fops = 0; returns = 0; cents = 0; events = [] }))
-
--- 9: "A: FOPs changed, B: returns changed, M: cents settled by both."
+-- 9: "returns before FOPs", all that are due in the state at the start
 unfoldable pub settlement : State → Step
-settlement s = let w = allSettled s in record { a = w .fops; b = w .returns; m = w .cents; state = w .state; events = w .events }
+settlement s = settleEach settleFop (dueRows s fopKind) (settleEach settleReturn (dueRows s returnKind) (silent s))

@@ -6,21 +6,23 @@ use Prim.Native.Nat.{ℕ, _+_, _*_}
 use lib.Dec.{eqb}
 use Rattle.baskets.specs.Basket.{eligible}
 use Rattle.baskets.specs.declared.Basket.{Basket}
-use Rattle.book.specs.Layout.{today, lots, modes, maps, greatestAges, accounts, positions, inUse, exposureGivers, exposureBaskets}
+use Rattle.book.specs.Layout.{today, lots, modes, maps, greatestAges, accounts, positions, exposureGivers, exposureBaskets}
 use Rattle.book.specs.State.{State, rowAt, columnsOf, raised, lowered}
 use Rattle.laws.specs.Sum.{sum}
 use Rattle.picking.specs.Free.{freed}
 use Rattle.picking.specs.Pick.{picked}
 use Rattle.picking.specs.declared.Freed.{Freed}
 use Rattle.picking.specs.declared.Outcome.{Outcome}
+use Rattle.rules.specs.Requests.{isInUse}
 use Rattle.securities.specs.Position.{worth, nominalsOf}
+use Rattle.securities.specs.Security.{hasLot}
 
 -- set up: a participant has a mode, a security a lot, a basket a map
 abbrev pub participantSetUp : State → ℕ → Bool
 participantSetUp s p = not (eqb (s modes p) 0)
 
 abbrev pub securitySetUp : State → ℕ → Bool
-securitySetUp s i = not (eqb (s lots i) 0)
+securitySetUp s i = hasLot (s lots i)
 
 abbrev pub basketSetUp : State → ℕ → Bool
 basketSetUp s b = not (eqb (s maps b) 0)
@@ -60,7 +62,7 @@ freeFor s e amount = freed (columnsOf s) (positionOf s e) amount
 
 -- "account plus positions of a giver in one security"
 abbrev pub positionFrom : State → ℕ → ℕ → ℕ → ℕ
-positionFrom s p i e = cond (eqb (s inUse e) 1 && eqb (s exposureGivers e) p) (s positions (64 * e + i)) 0
+positionFrom s p i e = cond (isInUse s e && eqb (s exposureGivers e) p) (s positions (64 * e + i)) 0
 
 unfoldable pub holding : State → ℕ → ℕ → ℕ
 holding s p i = s accounts (64 * p + i) + sum (positionFrom s p i) 64

@@ -13,12 +13,14 @@ use borrow.Author.Tests.{eq-eqb, ne-eqb, eqb-true, le-leb, lt-leb, leb-true}
 use Rattle.laws.proofs.Cases.{and-left, and-right, or-cases}
 use Rattle.laws.proofs.Least.{all-at}
 use Rattle.calendar.specs.Target.{openDay}
-use Rattle.valuation.specs.Value.{Bounded, legalPricing}
+use Rattle.valuation.specs.Value.{legalPricing}
+use Rattle.valuation.specs.Inverse.{Bounded}
 use Rattle.valuation.specs.declared.Pricing.{Pricing}
 use Rattle.valuation.proofs.Laws.{legal-bounded}
 use Rattle.securities.specs.declared.Security.{Security}
-use Rattle.securities.specs.Security.{securityAt, InBounds, AllInBounds, isBlank, isListed, legalSecurity, legalQuote, legalAt, quotedAt, legalSecurities, legalQuotes}
-use Rattle.securities.specs.Position.{nominalsOf, Within, legalNominalAt, legalNominals}
+use Rattle.securities.specs.Security.{securityAt, isBlank, isListed, legalSecurity, legalQuote, legalAt, quotedAt, legalSecurities, legalQuotes}
+use Rattle.securities.specs.Bounds.{InBounds, AllInBounds, Within}
+use Rattle.securities.specs.Position.{nominalsOf, legalNominalAt, legalNominals}
 
 module _ (s : Security) where
   -- a security that is not set up is legal where it has no other number either

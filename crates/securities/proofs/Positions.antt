@@ -8,8 +8,9 @@ use Rattle.laws.specs.Sum.{sum}
 use Rattle.laws.proofs.Sum.{sum-le, sum-part, sum-one}
 use Rattle.valuation.specs.Value.{value}
 use Rattle.valuation.proofs.Laws.{value-le}
-use Rattle.securities.specs.Security.{securityAt, AllInBounds}
-use Rattle.securities.specs.Position.{worth, valueAt, Within}
+use Rattle.securities.specs.Security.{securityAt}
+use Rattle.securities.specs.Bounds.{AllInBounds, Within}
+use Rattle.securities.specs.Position.{worth, valueAt}
 
 module _ (columns : List ℕ) (a : AllInBounds columns) where
   -- one security is worth at most 150,000,000,000, and those below k so many times that

@@ -2,8 +2,7 @@
 -- Assumes nothing.
 use mathlib.Core.Bool.{Bool}
 use mathlib.Core.List.{List}
-use Prim.Native.Nat.{ℕ, _≤_, _<_}
-use lib.Dec.{leb}
+use Prim.Native.Nat.{ℕ}
 use lib.ListN.{getD}
 use Rattle.laws.specs.Search.{all}
 use Rattle.laws.specs.Sum.{sum}
@@ -21,10 +20,6 @@ worth columns nominal = sum (valueAt columns nominal) 64
 -- the nominals of a list
 abbrev pub nominalsOf : List ℕ → ℕ → ℕ
 nominalsOf l i = getD l i 0
-
--- each nominal is at most 500,000,000
-pub record Within (nominal : ℕ → ℕ) : Type 0 where
-  pub within : (i : ℕ) → i < 64 → nominal i ≤ 500000000
 
 -- a host's nominals
 abbrev pub legalNominalAt : List ℕ → ℕ → Bool

@@ -2,11 +2,12 @@
 -- Assumes nothing.
 use mathlib.Core.Bool.{Bool, not, _&&_, _||_}
 use mathlib.Core.List.{List}
-use Prim.Native.Nat.{ℕ, _+_, _≤_, _<_}
+use Prim.Native.Nat.{ℕ, _+_}
 use lib.Dec.{eqb, leb}
 use lib.ListN.{getD}
+use Rattle.limits.specs.Limits.{greatestLot}
 use Rattle.calendar.specs.Target.{openDay}
-use Rattle.valuation.specs.Value.{Bounded, legalPricing}
+use Rattle.valuation.specs.Value.{legalPricing}
 use Rattle.laws.specs.Search.{all}
 use Rattle.securities.specs.declared.Security as declared
 
@@ -19,18 +20,11 @@ securityAt columns i = record {
 }
 
 -- set up: it has a lot
+abbrev pub hasLot : ℕ → Bool
+hasLot lot = not (eqb lot 0)
+
 abbrev pub isSetUp : declared.Security → Bool
-isSetUp s = not (eqb (s .lot) 0)
-
--- what picking and freeing count on: numbers within their bounds, and a price where it is set up
-pub record InBounds (s : declared.Security) : Type 0 where
-  pub lot-le : s .lot ≤ 1000000
-  pub bounded : Bounded (s .pricing)
-  pub priced : 0 < s .lot → 1 ≤ s .pricing .price
-
--- all 64 of them
-pub record AllInBounds (columns : List ℕ) : Type 0 where
-  pub in-bounds : (i : ℕ) → i < 64 → InBounds (securityAt columns i)
+isSetUp s = hasLot (s .lot)
 
 -- a host's numbers of a security that is not set up: nothing but zeros
 abbrev pub isBlank : declared.Security → Bool
@@ -38,7 +32,7 @@ isBlank s = eqb (s .lot) 0 && (eqb (s .pricing .price) 0 && (eqb (s .pricing .ha
 
 -- and of one that is: "lot 32 (1 to 1,000,000)", price and haircut in their ranges
 abbrev pub isListed : declared.Security → Bool
-isListed s = leb 1 (s .lot) && (leb (s .lot) 1000000 && legalPricing (s .pricing))
+isListed s = leb 1 (s .lot) && (leb (s .lot) greatestLot && legalPricing (s .pricing))
 
 unfoldable pub legalSecurity : declared.Security → Bool
 legalSecurity s = isBlank s || isListed s

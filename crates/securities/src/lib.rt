@@ -4,8 +4,11 @@ ghost use mathlib.Core.Path.{_≡_};
 ghost use Prim.Native.Nat.{_<_, _≤_};
 ghost use mathlib.Core.Bool.{true};
 ghost use Rattle.calendar.specs.Target.{openDay};
-ghost use Rattle.securities.specs.Position.{worth, valueAt, nominalsOf, Within, legalNominalAt, legalNominals};
-ghost use Rattle.securities.specs.Security.{securityAt, AllInBounds, legalSecurity, legalQuote, legalAt, quotedAt, legalSecurities, legalQuotes};
+ghost use Rattle.securities.specs.Position.{worth, valueAt, nominalsOf, legalNominalAt, legalNominals};
+ghost use Rattle.securities.specs.Security.{securityAt, legalSecurity, legalQuote, legalAt, quotedAt, legalSecurities, legalQuotes};
+ghost use Rattle.securities.specs.Bounds.{AllInBounds, Within};
+use limits::GREATEST_LOT;
+use limits::GREATEST_NOMINAL;
 use valuation::Pricing;
 
 pub struct Security {
@@ -71,7 +74,7 @@ fn is_legal(s: Security) -> bool
         }
         return s.quote == 0;
     }
-    if 1000000 < s.lot {
+    if GREATEST_LOT < s.lot {
         return false;
     }
     valuation::is_legal(pricing)
@@ -141,7 +144,7 @@ fn is_nominal_at(nominals: &[u64; 64], i: usize) -> bool
     requires { ⌜ i < 64 ⌝ }
     ensures { λ r. ⌜ r ≡ legalNominalAt (now (nominals .entry)) i ⌝ }
 {
-    nominals[i] <= 500000000
+    nominals[i] <= GREATEST_NOMINAL
 }
 
 // Are all of a host's nominals at most 500,000,000?

@@ -1,2 +1,1 @@
-pub mod Keyed
 pub mod Passes

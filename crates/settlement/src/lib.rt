@@ -5,12 +5,12 @@ ghost use lib.ListN.{length};
 ghost use Rattle.eligibility.specs.Fresh.{FreshBaskets};
 ghost use Rattle.book.specs.Layout.{bookLength};
 ghost use Rattle.book.specs.State.{state, columnsOf};
-ghost use Rattle.facts.proofs.Keeps.{Good};
-ghost use Rattle.pair_settlement.specs.Pairs.{PairOf};
+ghost use Rattle.facts.specs.Good.{Good};
 ghost use Rattle.rules.specs.Settlement.{settlement};
 ghost use Rattle.rules.specs.Sound.{sound};
+ghost use Rattle.settlement_laws.specs.Ways.{PairOf, wayOf, settleBy};
 ghost use Rattle.totals.specs.Totals.{totalsOf};
-ghost use Rattle.settlement.specs.Passes.{begun, Alike, settleOf, Room, Within, Passed};
+ghost use Rattle.settlement.specs.Passes.{begun, Alike, Room, Within, Passed};
 use totals::Totals;
 
 // Settles one pair, and counts it where something settled.
@@ -23,7 +23,7 @@ fn settle_pair(
     t: Totals,
 ) -> Totals
     requires { ⌜ (length (now book) ≡ bookLength) × Good (state (now book)) × PairOf (state (now book)) kind i × (now columns ≡ columnsOf (state (now book))) × Room 512 t × FreshBaskets (state (now book)) (now since) ⌝ }
-    ensures { λ r. ⌜ Alike (begun (state (now (book .exit))) r) (settleOf kind (begun (state (now (book .entry))) t) i) × Within t 1 r ⌝ }
+    ensures { λ r. ⌜ Alike (begun (state (now (book .exit))) r) (settleBy (wayOf kind) (begun (state (now (book .entry))) t) i) × Within t 1 r ⌝ }
 {
     if kind == 7 {
         let x = pair_settlement::settle_return(book, columns, i);

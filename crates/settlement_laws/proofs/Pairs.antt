@@ -17,13 +17,13 @@ use Rattle.rules.specs.Requests.{isUsed, isPaired, partnerOf, restOf}
 use Rattle.rules.specs.Settlement.{bothSettled}
 use Rattle.rules.specs.Stock.{holding}
 use Rattle.rules.specs.ByRow.{soundRow}
-use Rattle.facts.proofs.Keeps.{Good}
+use Rattle.facts.specs.Good.{Good}
 use Rattle.facts.proofs.Rows.{Fields, Kind, fop, return, Pair, used-fields, used-paired, used-unpaired, unused-blank, blank-sound}
 
 -- an amount of either kind is at most 10^12
-amount-le : (s : State) (i : ℕ) → Kind s i → s amounts i ≤ 1000000000000
-amount-le s i (fop e f) = f .amount-high
-amount-le s i (return e r) = r .amount-high
+pub amount-le : {s : State} {i : ℕ} → Kind s i → s amounts i ≤ 1000000000000
+amount-le (fop e f) = f .amount-high
+amount-le (return e r) = r .amount-high
 
 module _ (s : State) (i x : ℕ) (h : Good s) (below : i < 256) (used : isUsed s i ≡ true) (paired : isPaired s i ≡ true) where
   abbrev partner : ℕ
@@ -129,7 +129,7 @@ module _ (s : State) (i x : ℕ) (h : Good s) (below : i < 256) (used : isUsed s
     unfolding all holding
     good-both =
         let f = h .facts in
-        let most = amount-le s i (fields .kind) in
+        let most = amount-le (fields .kind) in
         let more : s settledAmounts i + x < 256 ^ 8 = omega (arith, fields .settled) in
         record {
           facts = record {

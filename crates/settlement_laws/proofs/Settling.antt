@@ -1,26 +1,28 @@
 -- One pair settles: a return gives bonds back, a FOP takes some in. The book stays sound, each participant keeps its bonds, and one
 -- exposure's amount changes by what settled.
 -- Assumes nothing.
-use mathlib.Core.Path.{_≡_, refl}
+use mathlib.Core.Path.{_≡_}
 use mathlib.Core.Bool.{Bool, true, false, cond}
 use mathlib.Core.List.{List}
 use mathlib.Core.Logic.{⊎-elim}
 use Prim.Native.Nat.{ℕ, _+_, _*_, _-_, _≤_, _<_}
 use native.Mathlib.Omega.{arith}
 use lib.Dec.{eqb, ltb}
-use borrow.Author.Tests.{eqb-true, ltb-false}
+use borrow.Author.Tests.{eqb-true, eq-eqb, ltb-false}
 use Rattle.laws.proofs.Cases.{either}
 use Rattle.book.specs.Layout.{tolerance, requestKinds, basketsOrExposures, pairPartials, inUse, exposureGivers, exposureAmounts, accounts, positions}
-use Rattle.book.specs.State.{State, put, lowered, Raisable, Lowerable}
+use Rattle.book.specs.State.{State, put, lowered}
+use Rattle.book.specs.Fits.{Raisable, Lowerable}
 use Rattle.book.proofs.Images.{put-same, put-other}
-use Rattle.rules.specs.Requests.{isUsed, isFop, isReturn, isPaired, restOf, exposureOfFop}
-use Rattle.rules.specs.Settlement.{bothSettled, returnAmount, returnSettled, found, fopAmount, fopSettled}
+use Rattle.rules.specs.Requests.{isReturn, restOf, exposureOfFop}
+use Rattle.rules.specs.Settlement.{bothSettled, returnAmount, returnSettled}
 use Rattle.rules.specs.Stock.{eligibleFor, pickFor, freeFor, holding}
-use Rattle.facts.proofs.Keeps.{Good}
+use Rattle.facts.specs.Good.{Good}
 use Rattle.facts.proofs.Rows.{Return, Kind, fop, return, used-fields, used-paired, used-exposure}
 use Rattle.bond_laws.proofs.Keeping.{giver-below, good-pledge, good-amount, good-lowered}
 use Rattle.bond_laws.proofs.Lots.{Pledgeable, pledge-lowerable, giveBack-lowerable, position-lots, pick-pledgeable, pick-value, free-returnable, free-all}
 use Rattle.bond_laws.proofs.Moving.{holding-pledge, holding-giveBack, pledge-raisable, giveBack-raisable}
+use Rattle.settlement_laws.specs.Ways.{PairOf, found, fopAmount, fopSettled}
 use Rattle.settlement_laws.proofs.Finding.{exposure-used}
 use Rattle.settlement_laws.proofs.Pairs.{good-both}
 
@@ -90,16 +92,16 @@ module _ (s : State) (i : ℕ) where
       let most = s exposureAmounts target + restOf s i in
       ⊎-elim (λ e. absurd (n (rw e))) (λ e. ltb-false 10000000000000 most e) (either (ltb 10000000000000 most))
 
-module _ (s : State) (i : ℕ) (h : Good s) (below : i < 256) (used : isUsed s i ≡ true) (paired : isPaired s i ≡ true) where
+module _ {s : State} {i : ℕ} (h : Good s) where
   -- a return
-  module _ (kind : isReturn s i ≡ true) where
+  module _ (r : PairOf s 7 i) where
     pub return-names : Return s i
-    return-names = return-of s i (used-fields s i (h .facts .row i below) used .kind) kind
+    return-names = return-of s i (used-fields s i (h .facts .row i (r .below)) (r .used) .kind) (eq-eqb (s requestKinds i) 7 (r .kind-is))
 
     pub return-good : Good (returnSettled s i)
     unfolding returnSettled
     return-good =
-        let pair = good-both s i (returnAmount s i) h below used paired (omega arith) in
+        let pair = good-both s i (returnAmount s i) h (r .below) (r .used) (r .paired) (omega arith) in
         let back = free-returnable (amountLowered s i) (named s i) (left s i) in
         let small = used-exposure s (named s i) (h .facts .exposure (named s i) (return-names .exposure-below)) (return-names .exposure-used) .amount in
         good-lowered (bothSettled s i (returnAmount s i)) (named s i) (left s i) (givenBack s i) pair (return-names .exposure-below) (return-names .exposure-used) (omega arith)
@@ -121,13 +123,13 @@ module _ (s : State) (i : ℕ) (h : Good s) (below : i < 256) (used : isUsed s i
     return-bonds = holding-giveBack (amountLowered s i) (named s i) (givenBack s i) (return-names .exposure-below) (return-names .exposure-used) return-lowerable
 
   -- a FOP
-  module _ (kind : isFop s i ≡ true) where
+  module _ (f : PairOf s 6 i) where
     pub fop-below : target s i < 64
     fop-below =
         ⊎-elim
-        (λ r. absurd (omega (arith, eqb-true (s requestKinds i) 6 kind, eqb-true (s requestKinds i) 7 r)))
+        (λ r. absurd (omega (arith, f .kind-is, eqb-true (s requestKinds i) 7 r)))
         (λ l. l)
-        (used-paired s i (h .facts .row i below) used paired .belongs)
+        (used-paired s i (h .facts .row i (f .below)) (f .used) (f .paired) .belongs)
 
     pub fop-target : s inUse (target s i) ≡ 1
     fop-target = exposure-used s i fop-below
@@ -140,7 +142,7 @@ module _ (s : State) (i : ℕ) (h : Good s) (below : i < 256) (used : isUsed s i
     fop-good n =
         let both = bothSettled s i (fopAmount s i) in
         let more = s exposureAmounts (target s i) + fopAmount s i in
-        let pair = good-both s i (fopAmount s i) h below used paired (fop-within s i) in
+        let pair = good-both s i (fopAmount s i) h (f .below) (f .used) (f .paired) (fop-within s i) in
         let raised = good-amount both (target s i) more pair fop-below fop-target (omega (arith, fop-within s i, fop-room s i n)) (λ z. absurd (omega arith)) in
         good-pledge (amountRaised s i) (target s i) (takenIn s i) raised fop-below fop-target (λ z. omega (arith, put-same both exposureAmounts (target s i) more)) taken-whole
 

@@ -1,110 +1,103 @@
--- Which pairs are due after the one that settles stays: of what tells that a row is due, only the settled amounts of its two rows change,
--- and neither of the two is due after it.
+-- Settling a pair leaves the others due: of what tells that a row is due, only the settled amounts of the pair's two rows change, and of
+-- the two the later is tried once, the earlier never.
 -- Assumes nothing.
-use mathlib.Core.Path.{_≡_, refl, sym, _∙_}
-use mathlib.Core.Bool.{Bool, false, and-false}
-use Prim.Native.Nat.{ℕ, zero, suc, _-_, _≤_, _<_}
-use native.Mathlib.Decide.{ℕ-discrete}
+use mathlib.Core.Path.{_≡_, refl, sym, ap, _∙_}
+use mathlib.Core.Bool.{Bool, _&&_}
+use mathlib.Core.List.{List, _∷_}
+use mathlib.Core.Logic.{inl, inr, ⊎-elim}
+use Prim.Native.Nat.{ℕ, _<_}
 use native.Mathlib.Omega.{arith}
-use borrow.Author.Tests.{ne-eqb, le-ltb}
-use Rattle.laws.specs.Search.{leastBy}
+use lib.Dec.{eqb}
+use borrow.Author.Tests.{ne-eqb, eqb-true}
+use Rattle.laws.specs.Lists.{those, inOrder}
+use Rattle.laws.proofs.Cases.{either}
+use Rattle.laws.proofs.Lists.{In, Sorted, Differ, sorted-by, those-same, order-same}
 use Rattle.book.specs.Layout.{today, numbers, requestKinds, amounts, settlements, settledAmounts, partners, ends}
 use Rattle.book.specs.State.{State}
 use Rattle.rules.specs.Requests.{partnerOf}
-use Rattle.rules.specs.Settlement.{orderOf, isDue, nextDue, returnSettled, fopSettled}
-use Rattle.facts.proofs.Keeps.{Good}
-use Rattle.facts.proofs.Rows.{used-paired}
-use Rattle.settlement_laws.proofs.Finding.{Due}
+use Rattle.rules.specs.Settlement.{isDue, settlesBefore, dueRows, bothSettled, returnSettled}
+use Rattle.facts.specs.Good.{Good}
+use Rattle.facts.proofs.Rows.{Pair, used-paired}
+use Rattle.settlement_laws.specs.Ways.{PairOf, Due, fopSettled}
+use Rattle.settlement_laws.proofs.Finding.{due-in, due-pair, due-later, due-sorted}
+use Rattle.settlement_laws.proofs.Ordering.{not-itself}
 
--- after a place in the order the same rows are due in two states, in the same order
-pub record Stays (kind last : ℕ) (s t : State) : Type 0 where
-  pub due : (l i : ℕ) → last ≤ l → i < 256 → isDue t kind l i ≡ isDue s kind l i
-  pub order : (i : ℕ) → orderOf t i ≡ orderOf s i
+-- what tells that a row is due and when, but for the settled amounts of a pair
+pub record Touched (s t : State) (i : ℕ) : Type 0 where
+  pub day : t today 0 ≡ s today 0
+  pub number : (k : ℕ) → t numbers k ≡ s numbers k
+  pub kind : (k : ℕ) → t requestKinds k ≡ s requestKinds k
+  pub amount : (k : ℕ) → t amounts k ≡ s amounts k
+  pub settlement : (k : ℕ) → t settlements k ≡ s settlements k
+  pub partner : (k : ℕ) → t partners k ≡ s partners k
+  pub end : (k : ℕ) → t ends k ≡ s ends k
+  pub settled : (k : ℕ) → Differ k i → Differ k (partnerOf s i) → t settledAmounts k ≡ s settledAmounts k
 
-pub stays-start : (kind last : ℕ) (s : State) → Stays kind last s s
-stays-start kind last s = record { due = λ l i h m. refl; order = λ i. refl }
+-- each is due, and they are different rows
+pub record Lined (s : State) (kind : ℕ) (rows : List ℕ) : Type 0 where
+  pub due : (i : ℕ) → In i rows → Due s kind i
+  pub apart : Sorted Differ rows
 
-pub stays-then : {kind last later : ℕ} {s t u : State} → last ≤ later → Stays kind last s t → Stays kind later t u → Stays kind later s u
-stays-then g a b = record { due = λ l i h m. b .due l i h m ∙ a .due l i (omega arith) m; order = λ i. b .order i ∙ a .order i }
+pub lined-start : (s : State) (kind : ℕ) → Good s → Lined s kind (dueRows s kind)
+lined-start s kind g = record {
+  due = due-in s kind;
+  apart = sorted-by (dueRows s kind) (λ i j a b h e. not-itself s i (rw (← e) at h)) (due-sorted s kind g);
+}
 
--- so the next pair is the same
-least-same : (t u : ℕ → Bool) (f g : ℕ → ℕ) (none n : ℕ) → ((i : ℕ) → i < n → t i ≡ u i) → ((i : ℕ) → f i ≡ g i) → leastBy t f none n ≡ leastBy u g none n
-unfolding leastBy
-least-same t u f g none zero h e = refl
-least-same t u f g none (suc n) h e =
-    let before = least-same t u f g none n (λ i l. h i (omega arith)) e in
-    rw (h n (omega arith), before, e n, e (leastBy u g none n))
+module _ {s t : State} {kind i : ℕ} (g : Good s) (p : PairOf s kind i) (a : Touched s t i) where
+  pair : Pair s i (partnerOf s i)
+  pair = used-paired s i (g .facts .row i (p .below)) (p .used) (p .paired) .pair
 
-pub next-stays : {kind last : ℕ} {s t : State} → Stays kind last s t → nextDue t kind last ≡ nextDue s kind last
-next-stays {kind} {last} {s} {t} a = least-same (isDue t kind last) (isDue s kind last) (orderOf t) (orderOf s) 256 256 (λ i l. a .due last i (omega arith) l) (a .order)
+  due-same : (k : ℕ) → Differ k i → Differ k (partnerOf s i) → isDue t k ≡ isDue s k
+  unfolding isDue
+  due-same k n m = rw (a .partner k, a .number k, a .number (partnerOf s k), a .amount k, a .settlement k, a .end k, a .settled k n m, a .day)
 
--- a row that is not after a place in the order, and one that is not the later of its pair
-not-after : (s : State) (kind l k : ℕ) → orderOf s k ≤ l → isDue s kind l k ≡ false
-not-after s kind l k h = rw (le-ltb l (orderOf s k) h) (simp and-false)
+  before-same : (j k : ℕ) → settlesBefore t j k ≡ settlesBefore s j k
+  unfolding settlesBefore
+  before-same j k = rw (a .settlement j, a .settlement k, a .number j, a .number k)
 
-not-later : (s : State) (kind l k : ℕ) → s numbers k ≤ s numbers (partnerOf s k) → isDue s kind l k ≡ false
-not-later s kind l k h = rw (le-ltb (s numbers (partnerOf s k)) (s numbers k) h) (simp and-false)
+  -- the pairs of another kind are due as they were
+  pub others-stay : (other : ℕ) → Differ other kind → dueRows t other ≡ dueRows s other
+  unfolding dueRows
+  others-stay other n =
+      let now : ℕ → Bool = λ k. eqb (t requestKinds k) other && isDue t k in
+      let was : ℕ → Bool = λ k. eqb (s requestKinds k) other && isDue s k in
+      let same : (k : ℕ) → k < 256 → now k ≡ was k = λ k l. rw (a .kind k)
+      (⊎-elim
+      (λ e.
+      let is = eqb-true (s requestKinds k) other e in
+      rw e (due-same k (λ q. n (sym is ∙ ap (s requestKinds) q ∙ p .kind-is)) (λ q. n (sym is ∙ ap (s requestKinds) q ∙ sym (pair .kind) ∙ p .kind-is))))
+      (λ e. rw e)
+      (either (eqb (s requestKinds k) other))) in
+      order-same (settlesBefore t) (settlesBefore s) (those now 256) (λ j k h l. before-same j k) ∙ ap (inOrder (settlesBefore s)) (those-same now was 256 same)
 
--- what tells that a row is due, but for the settled amounts of two rows
-record SameBut (s t : State) (i j : ℕ) : Type 0 where
-  day : t today 0 ≡ s today 0
-  number : (k : ℕ) → t numbers k ≡ s numbers k
-  kind : (k : ℕ) → t requestKinds k ≡ s requestKinds k
-  amount : (k : ℕ) → t amounts k ≡ s amounts k
-  settlement : (k : ℕ) → t settlements k ≡ s settlements k
-  partner : (k : ℕ) → t partners k ≡ s partners k
-  end : (k : ℕ) → t ends k ≡ s ends k
-  settled : (k : ℕ) → (k ≡ i → ⊥) → (k ≡ j → ⊥) → t settledAmounts k ≡ s settledAmounts k
+-- the pairs of the kind that come after it are due as they were
+pub lined-next : {s t : State} {kind i : ℕ} {rows : List ℕ} → Good s → Lined s kind (i ∷ rows) → Touched s t i → Lined t kind rows
+lined-next {s} {t} {kind} {i} {rows} g l a =
+    let own = l .due i (inl refl) in
+    let row = due-pair own in
+    let named = pair g row a .named in
+    record {
+      due = λ k h.
+          let d = l .due k (inr h) in
+          let earlier : Differ k (partnerOf s i) = λ q.
+          let back : partnerOf s k ≡ i = rw q (omega (arith, named)) in
+          let less : s numbers i < s numbers k = rw back at (due-later d) in
+          let more : s numbers k < s numbers i = rw (← q) at (due-later own) in
+          omega arith in
+          record { below = d .below; kind-is = a .kind k ∙ d .kind-is; due = due-same g row a k (λ q. l .apart .0 k h (sym q)) earlier ∙ d .due };
+      apart = l .apart .1;
+    }
 
-module _ (s : State) (kind last i : ℕ) (h : Good s) (d : Due s kind last i) where
-  abbrev other : ℕ
-  other = partnerOf s i
+-- a return and a FOP touch their own pair only
+module _ (s : State) (i : ℕ) where
+  touched : (x : ℕ) (k : ℕ) → Differ k i → Differ k (partnerOf s i) → bothSettled s i x settledAmounts k ≡ s settledAmounts k
+  touched x k n m = rw (ne-eqb k (partnerOf s i) m, ne-eqb k i n)
 
-  -- the partner's partner is the row itself
-  back : partnerOf s other ≡ i
-  back = omega (arith, used-paired s i (h .facts .row i (d .below)) (d .used) (d .paired) .pair .named)
-
-  module _ {t : State} (a : SameBut s t i other) where
-    order-same : (k : ℕ) → orderOf t k ≡ orderOf s k
-    order-same k = rw (a .settlement k, a .number k)
-
-    due-same : (l k : ℕ) → orderOf s i ≤ l → isDue t kind l k ≡ isDue s kind l k
-    due-same l k g =
-        elim (ℕ-discrete k i) [
-          | yes q ↦ rw q (not-after t kind l i (rw (order-same i) g) ∙ sym (not-after s kind l i g))
-          | no n ↦ elim (ℕ-discrete k other) [
-            | yes q ↦
-                let earlier : s numbers other ≤ s numbers (partnerOf s other) = rw back (omega (arith, d .later)) in
-                rw q (not-later t kind l other (rw (a .partner other, a .number other, a .number (partnerOf s other)) earlier) ∙ sym (not-later s kind l other earlier))
-            | no m ↦ rw (a .partner k, a .number k, a .number (partnerOf s k), a .kind k, a .amount k, a .settlement k, a .end k, a .settled k n m, a .day)
-          ]
-        ]
-
-    stays : Stays kind (orderOf s i) s t
-    stays = record { due = λ l k g m. due-same l k g; order = order-same }
-
-  pub return-stays : Stays kind (orderOf s i) s (returnSettled s i)
+  pub return-touched : Touched s (returnSettled s i) i
   unfolding returnSettled
-  return-stays = stays (record {
-    day = refl;
-    number = λ k. refl;
-    kind = λ k. refl;
-    amount = λ k. refl;
-    settlement = λ k. refl;
-    partner = λ k. refl;
-    end = λ k. refl;
-    settled = λ k n m. rw (ne-eqb k other m, ne-eqb k i n);
-  })
+  return-touched = record { day = refl; number = λ k. refl; kind = λ k. refl; amount = λ k. refl; settlement = λ k. refl; partner = λ k. refl; end = λ k. refl; settled = touched _ }
 
-  pub fop-stays : Stays kind (orderOf s i) s (fopSettled s i)
+  pub fop-touched : Touched s (fopSettled s i) i
   unfolding fopSettled
-  fop-stays = stays (record {
-    day = refl;
-    number = λ k. refl;
-    kind = λ k. refl;
-    amount = λ k. refl;
-    settlement = λ k. refl;
-    partner = λ k. refl;
-    end = λ k. refl;
-    settled = λ k n m. rw (ne-eqb k other m, ne-eqb k i n);
-  })
+  fop-touched = record { day = refl; number = λ k. refl; kind = λ k. refl; amount = λ k. refl; settlement = λ k. refl; partner = λ k. refl; end = λ k. refl; settled = touched _ }

@@ -24,6 +24,7 @@ use book::layout::TOLERANCE;
 use book::layout::WAITING_LISTS;
 use book::layout::WAITING_MODES;
 use book::layout::WAITING_PARTIALS;
+use record_kinds::Fields;
 
 // Makes every byte 0.
 fn clear(book: &mut [u8])
@@ -37,14 +38,14 @@ fn clear(book: &mut [u8])
 }
 
 // 0: the code of an opening.
-pub fn opening_code(fields: &[u64; 8]) -> u64
+pub fn opening_code(fields: &Fields) -> u64
     ensures { λ r. ⌜ r ≡ lowest (openingRules (now (fields .entry))) ⌝ }
 {
     if calendar::is_open(fields[0]) { 0 } else { 7 }
 }
 
 // 0: the empty book with a day and a tolerance.
-pub fn open(book: &mut [u8], fields: &[u64; 8])
+pub fn open(book: &mut [u8], fields: &Fields)
     requires { ⌜ (length (now book) ≡ bookLength) × (areLegal 0 (now fields) ≡ true) ⌝ }
     ensures { λ _. ⌜ state (now (book .exit)) ≡ opened (now (fields .entry)) .state ⌝ }
 {
@@ -55,7 +56,7 @@ pub fn open(book: &mut [u8], fields: &[u64; 8])
 }
 
 // 1: the code of a price.
-pub fn price_code(book: &[u8], fields: &[u64; 8]) -> u64
+pub fn price_code(book: &[u8], fields: &Fields) -> u64
     requires { ⌜ (length (now book) ≡ bookLength) × (areLegal 1 (now fields) ≡ true) ⌝ }
     ensures { λ r. ⌜ r ≡ lowest (priceRules (state (now (book .entry))) (now (fields .entry))) ⌝ }
 {
@@ -75,7 +76,7 @@ pub fn price_code(book: &[u8], fields: &[u64; 8]) -> u64
 }
 
 // 1: the price of a security.
-pub fn price(book: &mut [u8], fields: &[u64; 8])
+pub fn price(book: &mut [u8], fields: &Fields)
     requires { ⌜ (length (now book) ≡ bookLength) × (areLegal 1 (now fields) ≡ true) ⌝ }
     ensures { λ _. ⌜ state (now (book .exit)) ≡ priced (state (now (book .entry))) (now (fields .entry)) .state ⌝ }
 {
@@ -87,7 +88,7 @@ pub fn price(book: &mut [u8], fields: &[u64; 8])
 }
 
 // 2: a participant's profile: at once where it is the first, else it waits for the next day.
-pub fn enrol(book: &mut [u8], fields: &[u64; 8])
+pub fn enrol(book: &mut [u8], fields: &Fields)
     requires { ⌜ (length (now book) ≡ bookLength) × (areLegal 2 (now fields) ≡ true) ⌝ }
     ensures { λ _. ⌜ state (now (book .exit)) ≡ enrolled (state (now (book .entry))) (now (fields .entry)) .state ⌝ }
 {
@@ -104,7 +105,7 @@ pub fn enrol(book: &mut [u8], fields: &[u64; 8])
 }
 
 // 3: the code of a basket.
-pub fn basket_code(book: &[u8], fields: &[u64; 8]) -> u64
+pub fn basket_code(book: &[u8], fields: &Fields) -> u64
     requires { ⌜ (length (now book) ≡ bookLength) × (areLegal 3 (now fields) ≡ true) ⌝ }
     ensures { λ r. ⌜ r ≡ lowest (basketRules (state (now (book .entry))) (now (fields .entry))) ⌝ }
 {
@@ -116,7 +117,7 @@ pub fn basket_code(book: &[u8], fields: &[u64; 8]) -> u64
 }
 
 // 3: a basket's map and greatest age.
-pub fn make_basket(book: &mut [u8], fields: &[u64; 8])
+pub fn make_basket(book: &mut [u8], fields: &Fields)
     requires { ⌜ (length (now book) ≡ bookLength) × (areLegal 3 (now fields) ≡ true) ⌝ }
     ensures { λ _. ⌜ state (now (book .exit)) ≡ basketMade (state (now (book .entry))) (now (fields .entry)) .state ⌝ }
 {

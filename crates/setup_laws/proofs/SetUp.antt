@@ -18,7 +18,8 @@ use Rattle.calendar.proofs.OpenDays.{open-within}
 use Rattle.record_kinds.specs.Kinds.{kinds}
 use Rattle.records.specs.Writing.{areLegal}
 use Rattle.book.specs.Layout.{today, tolerance, nextNumber, lots, prices, haircuts, quoteDays, modes, lists, partials, waitingModes, waitingLists, waitingPartials, maps, greatestAges, exposureAmounts, accounts, rowsOf, widthOf}
-use Rattle.book.specs.State.{State, put, Fits}
+use Rattle.book.specs.State.{State, put}
+use Rattle.book.specs.Fits.{Fits}
 use Rattle.book.proofs.Images.{put-fits}
 use Rattle.book.proofs.Places.{row-of}
 use Rattle.rules.specs.Codes.{openingRules, priceRules, basketRules, depositRules, withdrawalRules}
@@ -28,7 +29,8 @@ use Rattle.rules.specs.Fields.{field}
 use Rattle.rules.specs.SetUp.{emptyState, opened, priced, enrolled, basketMade, deposited, withdrawn}
 use Rattle.rules.specs.ByRow.{soundSecurity, soundProfile, soundParticipant, soundBasket, soundPosition}
 use Rattle.rules.specs.Stock.{participantSetUp, securitySetUp, holding}
-use Rattle.facts.proofs.Keeps.{Good, Keeps, Amounts}
+use Rattle.facts.proofs.Keeps.{Keeps, Amounts}
+use Rattle.facts.specs.Good.{Good}
 use Rattle.facts.proofs.Ranges.{field-in}
 use Rattle.facts.proofs.Rows.{position-facts, position-none, position-stocked}
 use Rattle.facts.proofs.Rules.{none-applies}

@@ -2,7 +2,7 @@
 -- Assumes nothing.
 use mathlib.Core.Path.{_≡_, refl, sym, _∙_}
 use mathlib.Core.Bool.{Bool, true, false, not, _&&_, or-true}
-use mathlib.Core.List.{List}
+use mathlib.Core.List.{List, [], _∷_}
 use mathlib.Core.Logic.{⊎-elim}
 use Prim.Native.Nat.{ℕ, _+_, _≤_, _<_}
 use native.Mathlib.Decide.{ℕ-discrete}
@@ -12,19 +12,19 @@ use lib.ListN.{length, getD, set, length-set, replicate, length-replicate}
 use lib.Seq.{getD-set-same, getD-set-other}
 use borrow.Author.Tests.{eqb-true}
 use Rattle.laws.proofs.Cases.{either}
-use Rattle.laws.proofs.Least.{all-at}
-use Rattle.book.specs.Layout.{inUse, exposureGivers, exposureTakers, exposureBaskets, exposureClosings}
-use Rattle.book.specs.State.{State}
-use Rattle.rules.specs.ByRow.{same, alike, otherKey, distinctKey}
-use Rattle.facts.proofs.Facts.{all-of}
+use Rattle.book.specs.Layout.{inUse, exposureGivers, exposureTakers, exposureBaskets, exposureClosings, keyTables}
+use Rattle.book.specs.State.{State, rowsAlike}
+use Rattle.rules.specs.ByRow.{same, otherKey, distinctKey}
+use Rattle.facts.proofs.Truth.{split, all-of}
 use Rattle.exposure_search.specs.Slots.{slotOf}
 use Rattle.sound_exposures.specs.Keys.{KeysMarked}
 
 -- equal keys have one slot
-alike-slot : (s : State) (e d : ℕ) → alike s 4 exposureGivers e d ≡ true → slotOf s e ≡ slotOf s d
+alike-slot : (s : State) (e d : ℕ) → rowsAlike s keyTables e d ≡ true → slotOf s e ≡ slotOf s d
 alike-slot s e d h =
-    let at : (f : ℕ) → exposureGivers ≤ f → f < exposureGivers + 4 → s f e ≡ s f d = λ f g l. eqb-true (s f e) (s f d) (all-at (λ f. same s f e d) 4 exposureGivers h f g l) in
-    rw (at exposureGivers (omega arith) (omega arith), at exposureTakers (omega arith) (omega arith), at exposureBaskets (omega arith) (omega arith), at exposureClosings (omega arith) (omega arith))
+    let t = split (same s exposureGivers e d ∷ same s exposureTakers e d ∷ same s exposureBaskets e d ∷ same s exposureClosings e d ∷ []) h in
+    let at : (f : ℕ) → same s f e d ≡ true → s f e ≡ s f d = λ f. eqb-true (s f e) (s f d) in
+    rw (at exposureGivers (t .0), at exposureTakers (t .1 .0), at exposureBaskets (t .1 .1 .0), at exposureClosings (t .1 .1 .1))
 
 fails : (a b : Bool) → b ≡ false → not (a && b) ≡ true
 fails true b h = rw h
@@ -37,8 +37,8 @@ module _ (s : State) (marks : List ℕ) (e : ℕ) (m : KeysMarked s marks e) {p 
       (λ h.
       let mark : getD marks p 0 ≡ 1 = rw (pq ∙ alike-slot s e d h) (m .each d l) in
       absurd (omega arith))
-      (λ h. fails (eqb (s inUse d) 1) (alike s 4 exposureGivers e d) h)
-      (either (alike s 4 exposureGivers e d))
+      (λ h. fails (eqb (s inUse d) 1) (rowsAlike s keyTables e d) h)
+      (either (rowsAlike s keyTables e d))
 
   pub key-not-marked : getD marks p 0 ≡ 0 → true ≡ distinctKey s e
   key-not-marked z = sym (rw (all-of (otherKey s e) e 0 (λ d a l. other z d (omega arith)), or-true))

@@ -1,6 +1,6 @@
 -- What each return of the tests of an exposure shows.
 -- Assumes nothing.
-use mathlib.Core.Path.{_≡_, refl, sym, _∙_}
+use mathlib.Core.Path.{_≡_, refl, sym, ap, _∙_}
 use mathlib.Core.Bool.{Bool, true, false, not, _&&_, and-false}
 use mathlib.Core.Logic.{⊎-elim}
 use Prim.Native.Nat.{ℕ, _-_, _≤_, _<_}
@@ -10,12 +10,14 @@ use lib.Dec.{eqb, leb}
 use borrow.Author.Tests.{eq-eqb, ne-eqb, not-true, not-false}
 use Rattle.laws.specs.Filled.{filled}
 use Rattle.laws.specs.Search.{all}
-use Rattle.book.specs.Layout.{inUse, exposureGivers, exposureTakers, exposureBaskets, exposureClosings, exposureAmounts}
-use Rattle.book.specs.State.{State}
+use Rattle.laws.proofs.Least.{all-hit}
+use Rattle.book.specs.Layout.{inUse, exposureGivers, exposureTakers, exposureBaskets, exposureClosings, exposureAmounts, exposureTables}
+use Rattle.book.specs.State.{State, rowBlank}
+use Rattle.book.proofs.Tables.{every-from}
 use Rattle.rules.specs.Requests.{openOrNone}
-use Rattle.rules.specs.ByRow.{soundParties, basketNamed, alike, blank, soundExposure, otherKey, distinctKey}
+use Rattle.rules.specs.ByRow.{soundParties, basketNamed, same, soundExposure, otherKey, distinctKey}
 use Rattle.facts.proofs.Rows.{used-exposure, no-exposure, used-or-not}
-use Rattle.row_tests.specs.Rows.{InRows}
+use Rattle.row_tests.specs.Rows.{InRows, alike, blank}
 use Rattle.row_tests.proofs.InRows.{in-rows}
 
 -- the five tables of an exposure from the givers on have 64 rows
@@ -25,7 +27,11 @@ in-exposures n e h l = in-rows 64 exposureGivers 5 refl (omega arith) n exposure
 
 module _ (s : State) (e : ℕ) {u : ℕ} (q : u ≡ s inUse e) where
   pub unused : {b : Bool} → u ≡ 0 → b ≡ blank s 5 exposureGivers e → b ≡ soundExposure s e
-  unused z h = rw (eq-eqb (s inUse e) 0 (sym q ∙ z)) h
+  unused z h =
+      let t : ℕ → Bool = λ f. eqb (s f e) 0 in
+      let n : t inUse ≡ true = eq-eqb (s inUse e) 0 (sym q ∙ z) in
+      let none : soundExposure s e ≡ rowBlank s exposureTables e = rw n in
+      h ∙ sym (none ∙ every-from t 6 inUse ∙ all-hit t 5 inUse n)
 
   -- the tests of a used row
   abbrev used-tests : Bool
@@ -69,7 +75,7 @@ module _ (s : State) (e d : ℕ) {u : ℕ} (q : u ≡ s inUse d) where
   other-unused o = rw (ne-eqb (s inUse d) 1 (λ p. o (q ∙ p)))
 
   pub by-key : u ≡ 1 → {b : Bool} → b ≡ alike s 4 exposureGivers e d → not b ≡ otherKey s e d
-  by-key o h = rw (eq-eqb (s inUse d) 1 (sym q ∙ o), h)
+  by-key o h = rw (eq-eqb (s inUse d) 1 (sym q ∙ o)) (ap not (h ∙ sym (every-from (λ f. same s f e d) 4 exposureGivers)))
 
 module _ (s : State) (e : ℕ) {u : ℕ} (q : u ≡ s inUse e) where
   pub no-key : u ≡ 0 → true ≡ distinctKey s e

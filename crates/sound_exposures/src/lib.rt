@@ -15,6 +15,7 @@ use book::layout::EXPOSURE_CLOSINGS;
 use book::layout::EXPOSURE_GIVERS;
 use book::layout::EXPOSURE_TAKERS;
 use book::layout::IN_USE;
+use limits::GREATEST_EXPOSURE;
 
 fn is_sound_exposure(book: &[u8], e: usize, days: &[u64; 16]) -> bool
     requires { ⌜ (length (now book) ≡ bookLength) × (e < 64) × OpenDays (now days) ⌝ }
@@ -40,7 +41,7 @@ fn is_sound_exposure(book: &[u8], e: usize, days: &[u64; 16]) -> bool
     if !open_days::is_open_or_none(days, book::get(book, EXPOSURE_CLOSINGS, e)) {
         return false;
     }
-    book::get(book, EXPOSURE_AMOUNTS, e) <= 10000000000000
+    book::get(book, EXPOSURE_AMOUNTS, e) <= GREATEST_EXPOSURE
 }
 
 // Puts the closing day of a sound exposure among those at hand.

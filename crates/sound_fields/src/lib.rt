@@ -26,6 +26,7 @@ use book::layout::SETTLEMENTS;
 use book::layout::SIDES;
 use book::layout::TAKERS;
 use book::layout::TOLERANCE;
+use limits::GREATEST_AMOUNT;
 
 // A used row, each field read once: the reference says nothing about soundness.
 pub struct Request {
@@ -96,7 +97,7 @@ fn is_sound_fop(book: &[u8], q: Request, days: &[u64; 16]) -> bool
     if !sound_setup::is_basket_named(book, q.object) {
         return false;
     }
-    if !sound_setup::is_between(least, 1000000000000, q.amount) {
+    if !sound_setup::is_between(least, GREATEST_AMOUNT, q.amount) {
         return false;
     }
     open_days::is_open_or_none(days, q.closing)
@@ -109,7 +110,7 @@ fn is_sound_return(book: &[u8], q: Request) -> bool
     if !does_return_name(book, q) {
         return false;
     }
-    if !sound_setup::is_between(1, 1000000000000, q.amount) {
+    if !sound_setup::is_between(1, GREATEST_AMOUNT, q.amount) {
         return false;
     }
     q.closing == 0

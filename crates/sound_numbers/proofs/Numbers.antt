@@ -15,7 +15,7 @@ use Rattle.laws.specs.Search.{all}
 use Rattle.book.specs.Layout.{numbers}
 use Rattle.book.specs.State.{State}
 use Rattle.rules.specs.ByRow.{differs, distinctNumber}
-use Rattle.facts.proofs.Facts.{all-of}
+use Rattle.facts.proofs.Truth.{all-of}
 use Rattle.sound_numbers.specs.Numbers.{Marked}
 
 -- distinct numbers

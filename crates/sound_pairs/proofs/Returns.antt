@@ -7,10 +7,10 @@ use native.Mathlib.Nat.{zero-add}
 use native.Mathlib.Omega.{arith}
 use lib.Dec.{eqb, ltb}
 use borrow.Author.Tests.{eq-eqb, ne-eqb, lt-ltb, le-ltb, not-true, not-false}
-use Rattle.book.specs.Layout.{requestKinds, sides, givers, settledAmounts, partners, pairPartials, ends}
-use Rattle.book.specs.State.{State}
+use Rattle.book.specs.Layout.{requestKinds, sides, termTables, settledAmounts, partners, pairPartials, ends}
+use Rattle.book.specs.State.{State, rowsAlike}
 use Rattle.rules.specs.Requests.{isReturn, exposureWith, exposureOfFop, partnerOf}
-use Rattle.rules.specs.ByRow.{alike, marksAlike, soundPair, soundPaired}
+use Rattle.rules.specs.ByRow.{marksAlike, soundPair, soundPaired}
 use Rattle.sound_fields.specs.Rows.{Reads}
 use Rattle.sound_fields.specs.declared.Request as declared
 use Rattle.sound_pairs.specs.Rest.{unpairedOf, soundRest}
@@ -58,7 +58,7 @@ module _ (s : State) (q : declared.Request) (r : Reads s q) where
           pub other-kind : (q .kind ≡ l → ⊥) → false ≡ soundPair s (q .row) j
           other-kind h = rw (← r .kind, ← lq, ne-eqb (q .kind) l h, and-false, and-false, and-false)
 
-          module _ (kind : q .kind ≡ l) {a : Bool} (aq : a ≡ alike s 6 givers (q .row) j) where
+          module _ (kind : q .kind ≡ l) {a : Bool} (aq : a ≡ rowsAlike s termTables (q .row) j) where
             pub other-terms : not a ≡ true → false ≡ soundPair s (q .row) j
             other-terms h = rw (sym aq ∙ not-true a h, and-false, and-false, and-false, and-false)
 

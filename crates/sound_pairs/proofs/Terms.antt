@@ -1,6 +1,6 @@
 -- Several numbers of a row in one, and the terms of two rows compared so.
 -- Assumes nothing.
-use mathlib.Core.Path.{_≡_, ap, _∙_}
+use mathlib.Core.Path.{_≡_, sym, ap, _∙_}
 use mathlib.Core.Bool.{Bool}
 use Prim.Native.Nat.{ℕ, zero, suc, _+_, _≤_}
 use native.Mathlib.Decide.{ℕ-discrete}
@@ -9,11 +9,13 @@ use lib.Bits.{bitOr, bitXor, or-zero-l, xor-add-and, xor-self, and-le-l, and-le-
 use lib.Dec.{eqb}
 use borrow.Author.Tests.{eq-eqb, eqb-true}
 use Rattle.laws.proofs.Least.{all-at, all-same}
-use Rattle.book.specs.Layout.{givers, takers, basketsOrExposures, amounts, settlements, closings}
-use Rattle.book.specs.State.{State}
-use Rattle.rules.specs.ByRow.{same, alike, blank}
-use Rattle.facts.proofs.Facts.{all-of}
-use Rattle.row_tests.proofs.Empty.{agree, or-left, or-right}
+use Rattle.book.specs.Layout.{givers, takers, basketsOrExposures, amounts, settlements, closings, termTables}
+use Rattle.book.specs.State.{State, rowsAlike}
+use Rattle.book.proofs.Tables.{every-from}
+use Rattle.rules.specs.ByRow.{same}
+use Rattle.facts.proofs.Truth.{all-of, agree}
+use Rattle.row_tests.specs.Rows.{blank}
+use Rattle.row_tests.proofs.Empty.{or-left, or-right}
 use Rattle.sound_fields.specs.Rows.{Reads}
 use Rattle.sound_fields.specs.declared.Request as declared
 
@@ -54,9 +56,10 @@ same-bits x y = agree
     (λ p. rw (eqb-true x y p, xor-self))
 
 pub by-terms : (s : State) (q : declared.Request) (j : ℕ) {g t o a d c : ℕ} → Reads s q → g ≡ s givers j → t ≡ s takers j → o ≡ s basketsOrExposures j → a ≡ s amounts j → d ≡ s settlements j → c ≡ s closings j
-    → eqb (bitOr (bitOr (bitOr (bitOr (bitOr (bitXor (q .giver) g) (bitXor (q .taker) t)) (bitXor (q .object) o)) (bitXor (q .amount) a)) (bitXor (q .settlement) d)) (bitXor (q .closing) c)) 0 ≡ alike s 6 givers (q .row) j
+    → eqb (bitOr (bitOr (bitOr (bitOr (bitOr (bitXor (q .giver) g) (bitXor (q .taker) t)) (bitXor (q .object) o)) (bitXor (q .amount) a)) (bitXor (q .settlement) d)) (bitXor (q .closing) c)) 0 ≡ rowsAlike s termTables (q .row) j
 by-terms s q j r gq tq oq aq dq cq =
     let u : State = λ f i. bitXor (s f (q .row)) (s f j) in
     ap (λ (x : ℕ). eqb x 0) (both (both (both (both (both (bits (r .giver) gq) (bits (r .taker) tq)) (bits (r .object) oq)) (bits (r .amount) aq)) (bits (r .settlement) dq)) (bits (r .closing) cq))
     ∙ together-blank u 0 givers 5
     ∙ all-same (λ f. eqb (u f 0) 0) (λ f. same s f (q .row) j) 6 givers (λ f a l. same-bits (s f (q .row)) (s f j))
+    ∙ sym (every-from (λ f. same s f (q .row) j) 6 givers)

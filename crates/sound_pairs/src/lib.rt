@@ -4,10 +4,10 @@ ghost use mathlib.Core.Path.{_≡_};
 ghost use Prim.Native.Nat.{_+_, _<_};
 ghost use lib.Dec.{eqb, ltb};
 ghost use lib.ListN.{length};
-ghost use Rattle.book.specs.Layout.{bookLength, givers};
-ghost use Rattle.book.specs.State.{state};
+ghost use Rattle.book.specs.Layout.{bookLength, termTables};
+ghost use Rattle.book.specs.State.{state, rowsAlike};
 ghost use Rattle.rules.specs.Requests.{isReturn, exposureOfFop};
-ghost use Rattle.rules.specs.ByRow.{alike, marksAlike, soundPair, soundPaired};
+ghost use Rattle.rules.specs.ByRow.{marksAlike, soundPair, soundPaired};
 ghost use Rattle.sound_fields.specs.Rows.{Reads};
 ghost use Rattle.sound_pairs.specs.Rest.{unpairedOf, soundRest};
 use book::layout::AMOUNTS;
@@ -40,7 +40,7 @@ fn are_opposite(a: u64, b: u64) -> bool
 // The six fields that a pair has in common, from the giver to the closing.
 fn are_terms_alike(book: &[u8], q: Request, j: usize) -> bool
     requires { ⌜ (length (now book) ≡ bookLength) × Reads (state (now book)) q × (j < 256) ⌝ }
-    ensures { λ r. ⌜ r ≡ alike (state (now (book .entry))) 6 givers (q .row) j ⌝ }
+    ensures { λ r. ⌜ r ≡ rowsAlike (state (now (book .entry))) termTables (q .row) j ⌝ }
 {
     let giver = book::get(book, GIVERS, j);
     let taker = book::get(book, TAKERS, j);

@@ -15,11 +15,10 @@ use Rattle.book.specs.Layout.{numbers, requestKinds}
 use Rattle.book.specs.State.{State}
 use Rattle.rules.specs.Requests.{isUsed}
 use Rattle.rules.specs.ByRow.{soundRow}
-use Rattle.facts.proofs.Facts.{all-of, below}
+use Rattle.facts.proofs.Truth.{all-of, below, agree}
 use Rattle.facts.proofs.Rows.{unused-blank, blank-sound}
 use Rattle.row_tests.specs.Bytes.{emptyRows}
 use Rattle.row_tests.specs.Rows.{InRows}
-use Rattle.row_tests.proofs.Empty.{agree}
 use Rattle.row_tests.proofs.InRows.{in-rows}
 use Rattle.sound_requests.specs.Rows.{emptyTables}
 

@@ -7,7 +7,7 @@ use Prim.Native.Nat.{ℕ, _+_, _≤_, _<_}
 use native.Mathlib.Nat.{zero-add}
 use lib.Dec.{eqb, leb}
 use borrow.Author.Tests.{eq-eqb, ne-eqb, le-leb, lt-leb, le-ltb, lt-ltb, not-true, not-false}
-use Rattle.book.specs.Layout.{today, tolerance, nextNumber, lots, prices, haircuts, quoteDays, modes, lists, partials, waitingModes, waitingLists, waitingPartials, maps, greatestAges, spares}
+use Rattle.book.specs.Layout.{today, tolerance, nextNumber, lots, prices, haircuts, quoteDays, modes, lists, partials, waitingModes, waitingLists, waitingPartials, maps, greatestAges, spares, rowsOf}
 use Rattle.book.specs.State.{State}
 use Rattle.laws.specs.Search.{all, between}
 use Rattle.laws.proofs.Least.{all-same}
@@ -161,5 +161,5 @@ quote-open s i {l} {q} h e n f =
     rw f (t .1 .1 .1)
 
 -- the spare rows are the book's last bytes
-pub by-spares : (s : State) {r : Bool} → r ≡ emptyRows s spares 0 589 → r ≡ all (isSpare s) 589 0
-by-spares s e = e ∙ all-same (λ i. eqb (s spares (0 + i)) 0) (isSpare s) 589 0 (λ j a l. rw zero-add)
+pub by-spares : (s : State) {r : Bool} → r ≡ emptyRows s spares 0 589 → r ≡ all (isSpare s) (rowsOf spares) 0
+by-spares s e = e ∙ all-same (λ i. eqb (s spares (0 + i)) 0) (isSpare s) (rowsOf spares) 0 (λ j a l. rw zero-add)

@@ -4,7 +4,7 @@ ghost use mathlib.Core.Path.{_≡_};
 ghost use Prim.Native.Nat.{_<_};
 ghost use lib.ListN.{length};
 ghost use Rattle.laws.specs.Search.{all, between};
-ghost use Rattle.book.specs.Layout.{bookLength};
+ghost use Rattle.book.specs.Layout.{bookLength, spares, rowsOf};
 ghost use Rattle.book.specs.State.{state};
 ghost use Rattle.rules.specs.ByRow.{soundHead, soundSecurity, soundProfile, soundParticipant, soundBasket, soundParties, basketNamed, isSpare};
 ghost use Rattle.open_days.specs.Days.{OpenDays};
@@ -24,6 +24,11 @@ use book::layout::TOLERANCE;
 use book::layout::WAITING_LISTS;
 use book::layout::WAITING_MODES;
 use book::layout::WAITING_PARTIALS;
+use limits::GREATEST_HAIRCUT;
+use limits::GREATEST_LOT;
+use limits::GREATEST_NEXT;
+use limits::GREATEST_PRICE;
+use limits::GREATEST_TOLERANCE;
 
 // Is a number in a range?
 pub fn is_between(low: u64, high: u64, x: u64) -> bool
@@ -43,10 +48,10 @@ pub fn is_sound_head(book: &[u8]) -> bool
     if !calendar::is_open(book::get(book, TODAY, 0)) {
         return false;
     }
-    if !is_between(1, 100000000, book::get(book, TOLERANCE, 0)) {
+    if !is_between(1, GREATEST_TOLERANCE, book::get(book, TOLERANCE, 0)) {
         return false;
     }
-    is_between(1, 1000000000, book::get(book, NEXT_NUMBER, 0))
+    is_between(1, GREATEST_NEXT, book::get(book, NEXT_NUMBER, 0))
 }
 
 fn is_sound_security(book: &[u8], i: usize, days: &[u64; 16]) -> bool
@@ -66,13 +71,13 @@ fn is_sound_security(book: &[u8], i: usize, days: &[u64; 16]) -> bool
         }
         return quote == 0;
     }
-    if 1000000 < lot {
+    if GREATEST_LOT < lot {
         return false;
     }
-    if !is_between(1, 3000000, price) {
+    if !is_between(1, GREATEST_PRICE, price) {
         return false;
     }
-    if 9999 < haircut {
+    if GREATEST_HAIRCUT < haircut {
         return false;
     }
     open_days::is_known_open(days, quote)
@@ -188,7 +193,7 @@ pub fn are_sound_baskets(book: &[u8]) -> bool
 // The spare rows hold nothing.
 pub fn are_sound_spares(book: &[u8]) -> bool
     requires { ⌜ length (now book) ≡ bookLength ⌝ }
-    ensures { λ r. ⌜ r ≡ all (isSpare (state (now (book .entry)))) 589 0 ⌝ }
+    ensures { λ r. ⌜ r ≡ all (isSpare (state (now (book .entry)))) (rowsOf spares) 0 ⌝ }
 {
     row_tests::are_rows_empty(book, SPARES, 0, 589)
 }

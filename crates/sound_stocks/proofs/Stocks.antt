@@ -17,10 +17,11 @@ use Rattle.laws.specs.Sum.{sum}
 use Rattle.laws.proofs.Cases.{either, clash, and-left, and-right}
 use Rattle.laws.proofs.Sum.{sum-next, sum-mono}
 use Rattle.book.specs.Layout.{lots, inUse, exposureGivers, exposureAmounts, accounts, positions}
-use Rattle.book.specs.State.{State, Fits}
+use Rattle.book.specs.State.{State}
+use Rattle.book.specs.Fits.{Fits}
 use Rattle.rules.specs.Stock.{positionFrom, holding}
 use Rattle.rules.specs.ByRow.{soundExposure, soundPosition, soundPositions, soundHolding, soundHoldings}
-use Rattle.facts.proofs.Facts.{all-of, below}
+use Rattle.facts.proofs.Truth.{all-of, below}
 use Rattle.facts.proofs.Rows.{used-exposure, no-exposure, used-or-not}
 use Rattle.row_tests.specs.Bytes.{emptyRows}
 use Rattle.sound_stocks.specs.Stocks.{smallAccount, smallAccounts, inLots, soundStocks, Stocking, Held, Adding, Judged}

@@ -6,6 +6,7 @@ use mathlib.Core.Path.{_≡_}
 use Prim.Native.Nat.{ℕ, _+_, _*_, _%_, _≤_, _<_}
 use lib.Dec.{eqb, leb}
 use lib.ListN.{length, getD}
+use Rattle.limits.specs.Limits.{greatestNominal}
 use Rattle.laws.specs.Search.{all}
 use Rattle.laws.specs.Sum.{sum}
 use Rattle.book.specs.Layout.{lots, inUse, exposureGivers, exposureAmounts, accounts}
@@ -15,7 +16,7 @@ use Rattle.rules.specs.ByRow.{soundPosition, soundPositions, soundHoldings}
 
 -- an account by itself is within the limit
 abbrev pub smallAccount : State → ℕ → ℕ → Bool
-smallAccount s p i = leb (s accounts (64 * p + i)) 500000000
+smallAccount s p i = leb (s accounts (64 * p + i)) greatestNominal
 
 abbrev pub smallAccounts : State → ℕ → Bool
 smallAccounts s p = all (smallAccount s p) 64 0
@@ -41,7 +42,7 @@ pub record Stocking (s : State) (p e : ℕ) : Type 0 where
 pub record Held (s : State) (n : ℕ) (held : List ℕ) : Type 0 where
   pub long : length held ≡ 2048
   pub each : (p i : ℕ) → p < 32 → i < 64 → getD held (64 * p + i) 0 ≡ sum (positionFrom s p i) n
-  pub within : (p i : ℕ) → p < 32 → i < 64 → s accounts (64 * p + i) + getD held (64 * p + i) 0 ≤ 500000000
+  pub within : (p i : ℕ) → p < 32 → i < 64 → s accounts (64 * p + i) + getD held (64 * p + i) 0 ≤ greatestNominal
   pub lots : (e : ℕ) → e < n → soundPositions s e ≡ true
 
 -- on the way: of the exposure e the nominals of the securities below n are added too
@@ -51,7 +52,7 @@ pub record Adding (s : State) (p e n : ℕ) (held : List ℕ) : Type 0 where
   pub done : (i : ℕ) → i < n → getD held (64 * p + i) 0 ≡ sum (positionFrom s p i) (e + 1)
   pub rest : (i : ℕ) → n ≤ i → i < 64 → getD held (64 * p + i) 0 ≡ sum (positionFrom s p i) e
   pub others : (q i : ℕ) → q < 32 → i < 64 → (q ≡ p → ⊥) → getD held (64 * q + i) 0 ≡ sum (positionFrom s q i) e
-  pub within : (q i : ℕ) → q < 32 → i < 64 → s accounts (64 * q + i) + getD held (64 * q + i) 0 ≤ 500000000
+  pub within : (q i : ℕ) → q < 32 → i < 64 → s accounts (64 * q + i) + getD held (64 * q + i) 0 ≤ greatestNominal
   pub lots : (i : ℕ) → i < n → soundPosition s e i ≡ true
   pub before : (d : ℕ) → d < e → soundPositions s d ≡ true
 

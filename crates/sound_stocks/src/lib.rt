@@ -14,13 +14,14 @@ use book::layout::EXPOSURE_AMOUNTS;
 use book::layout::EXPOSURE_GIVERS;
 use book::layout::LOTS;
 use book::layout::POSITIONS;
+use limits::GREATEST_NOMINAL;
 
 // Is what a participant has of one security in its account within the limit?
 fn is_small_account(book: &[u8], p: usize, i: usize) -> bool
     requires { ⌜ (length (now book) ≡ bookLength) × (p < 32) × (i < 64) ⌝ }
     ensures { λ r. ⌜ r ≡ smallAccount (state (now (book .entry))) p i ⌝ }
 {
-    book::get(book, ACCOUNTS, 64 * p + i) <= 500000000
+    book::get(book, ACCOUNTS, 64 * p + i) <= GREATEST_NOMINAL
 }
 
 fn are_small_accounts_of(book: &[u8], p: usize) -> bool
@@ -87,7 +88,7 @@ fn is_sound_nominal(held: &mut [u32; 2048], book: &[u8], p: usize, e: usize, i: 
     }
     let at = 64 * p + i;
     let sum = wide(held[at]) + nominal;
-    if 500000000 < book::get(book, ACCOUNTS, at) + sum {
+    if GREATEST_NOMINAL < book::get(book, ACCOUNTS, at) + sum {
         return false;
     }
     held[at] = sum as u32;

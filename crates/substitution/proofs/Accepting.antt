@@ -16,8 +16,8 @@ use Rattle.baskets.specs.declared.Eligibility.{Eligibility}
 use Rattle.picking.specs.Pick.{picked, butNot}
 use Rattle.picking.specs.declared.Outcome.{Outcome}
 use Rattle.picking.proofs.Picks.{picked-eligible-but}
-use Rattle.securities.specs.Position.{worth, nominalsOf, Within}
-use Rattle.securities.specs.Security.{AllInBounds}
+use Rattle.securities.specs.Position.{worth, nominalsOf}
+use Rattle.securities.specs.Bounds.{AllInBounds, Within}
 use Rattle.securities.proofs.Positions.{sum-worth-le}
 use Rattle.book.specs.Layout.{today, tolerance, exposureGivers, exposureAmounts, accounts}
 use Rattle.book.specs.State.{State, state, rowAt, columnsOf}
@@ -26,8 +26,8 @@ use Rattle.rules.specs.Fields.{field}
 use Rattle.rules.specs.Stock.{basketOf, positionOf, valueOf}
 use Rattle.bonds.specs.Moves.{SoundBook}
 use Rattle.bonds.proofs.Rows.{good-of}
-use Rattle.facts.proofs.Facts.{Sound, sound-facts}
-use Rattle.facts.proofs.Keeps.{Good}
+use Rattle.facts.proofs.Written.{sound-facts}
+use Rattle.facts.specs.Good.{Sound, Good}
 use Rattle.facts.proofs.Rows.{used-exposure, head-facts}
 use Rattle.facts.proofs.Stock.{account-at, position-at, account-le, position-within, account-within}
 use Rattle.marking_laws.specs.Recalled.{added, accountAfter, positionLeft}

@@ -5,7 +5,8 @@ ghost use Rattle.book.specs.State.{state, columnsOf};
 ghost use Rattle.rules.specs.Marking.{substitutes, substituted, recallAccepted};
 ghost use Rattle.rules.specs.Fields.{field};
 ghost use Rattle.rules.specs.Stock.{valueOf};
-ghost use Rattle.securities.specs.Position.{Within, nominalsOf};
+ghost use Rattle.securities.specs.Position.{nominalsOf};
+ghost use Rattle.securities.specs.Bounds.{Within};
 ghost use Rattle.marking_laws.specs.Recalled.{added, accountAfter, positionLeft};
 ghost use Rattle.substitution.specs.Recalling.{Recalling};
 use book::layout::ACCOUNTS;
@@ -15,9 +16,10 @@ use book::layout::POSITIONS;
 use book::layout::TODAY;
 use book::layout::TOLERANCE;
 use picking::Outcome;
+use record_kinds::Fields;
 
 // The giver's account with the nominal that is recalled.
-fn account_after(book: &[u8], fields: &[u64; 8]) -> [u64; 64]
+fn account_after(book: &[u8], fields: &Fields) -> [u64; 64]
     requires { ⌜ Recalling (now book) (now fields) ⌝ }
     ensures { λ r. ⌜ r ≡ accountAfter (state (now (book .entry))) (now (fields .entry)) ⌝ }
 {
@@ -29,7 +31,7 @@ fn account_after(book: &[u8], fields: &[u64; 8]) -> [u64; 64]
 }
 
 // The exposure's position without it.
-fn position_left(book: &[u8], fields: &[u64; 8]) -> [u64; 64]
+fn position_left(book: &[u8], fields: &Fields) -> [u64; 64]
     requires { ⌜ Recalling (now book) (now fields) ⌝ }
     ensures { λ r. ⌜ r ≡ positionLeft (state (now (book .entry))) (now (fields .entry)) ⌝ }
 {
@@ -40,7 +42,7 @@ fn position_left(book: &[u8], fields: &[u64; 8]) -> [u64; 64]
 }
 
 // The substitutes: what is missing without the nominal, picked from the account with it, that security left out.
-pub fn substitutes(book: &[u8], columns: &[u64; 256], fields: &[u64; 8]) -> Outcome
+pub fn substitutes(book: &[u8], columns: &[u64; 256], fields: &Fields) -> Outcome
     requires { ⌜ Recalling (now book) (now fields) × (now columns ≡ columnsOf (state (now book))) ⌝ }
     ensures { λ r. ⌜ r ≡ substitutes (state (now (book .entry))) (now (fields .entry)) ⌝ }
 {
@@ -70,7 +72,7 @@ fn add_nominals(nominals: &[u64; 64], by: &[u64; 64]) -> [u64; 64]
 }
 
 // The value of the exposure's position after the recall: of what is left with the substitutes.
-fn value_after(book: &[u8], columns: &[u64; 256], fields: &[u64; 8]) -> u64
+fn value_after(book: &[u8], columns: &[u64; 256], fields: &Fields) -> u64
     requires { ⌜ Recalling (now book) (now fields) × (now columns ≡ columnsOf (state (now book))) ⌝ }
     ensures { λ r. ⌜ (r ≡ valueOf (substituted (state (now (book .entry))) (now (fields .entry))) (field (now (fields .entry)) 1)) × (r ≤ 9600000000000) ⌝ }
 {
@@ -82,7 +84,7 @@ fn value_after(book: &[u8], columns: &[u64; 256], fields: &[u64; 8]) -> u64
 }
 
 // Is the value after the recall, with the tolerance, above the exposure, or no lower than before?
-pub fn is_accepted(book: &[u8], fields: &[u64; 8]) -> bool
+pub fn is_accepted(book: &[u8], fields: &Fields) -> bool
     requires { ⌜ Recalling (now book) (now fields) ⌝ }
     ensures { λ r. ⌜ r ≡ recallAccepted (state (now (book .entry))) (now (fields .entry)) ⌝ }
 {

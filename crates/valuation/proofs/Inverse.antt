@@ -11,7 +11,8 @@ use borrow.Author.Tests.{leb-true, leb-false, le-leb, lt-leb}
 use Rattle.laws.specs.Search.{largest}
 use Rattle.laws.proofs.Largest.{Falling, largest-unique, largest-le, largest-most, falling-below}
 use Rattle.valuation.specs.declared.Pricing.{Pricing}
-use Rattle.valuation.specs.Value.{value, Bounded, nominalWithin}
+use Rattle.valuation.specs.Value.{value}
+use Rattle.valuation.specs.Inverse.{Bounded, nominalWithin}
 use Rattle.valuation.proofs.Laws.{value-zero, value-mono, value-le}
 
 module _ (t : Pricing) (cents : ℕ) where

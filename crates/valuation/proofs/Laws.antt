@@ -9,7 +9,8 @@ use lib.Dec.{lit<, leb}
 use borrow.Author.Tests.{leb-true, not-false}
 use Rattle.valuation.specs.declared.Pricing.{Pricing}
 use Rattle.laws.proofs.Cases.{and-left, and-right}
-use Rattle.valuation.specs.Value.{value, Bounded, legalPricing}
+use Rattle.valuation.specs.Value.{value, legalPricing}
+use Rattle.valuation.specs.Inverse.{Bounded}
 
 -- a product of three, each within its bound
 pub product-le : {a b c x y z : ℕ} → a ≤ x → b ≤ y → c ≤ z → a * b * c ≤ x * y * z

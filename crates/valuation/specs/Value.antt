@@ -1,9 +1,9 @@
 -- Document 01, "Steps": the value of a nominal.
 -- Assumes nothing.
 use mathlib.Core.Bool.{Bool, _&&_}
-use Prim.Native.Nat.{ℕ, _*_, _-_, _/_, _≤_}
+use Prim.Native.Nat.{ℕ, _*_, _-_, _/_}
 use lib.Dec.{leb}
-use Rattle.laws.specs.Search.{largest}
+use Rattle.limits.specs.Limits.{greatestHaircut, greatestNominal, greatestPrice}
 use Rattle.answers.specs.declared.CodedValue.{CodedValue}
 use Rattle.answers.specs.Answers.{acceptedIf, outOfRange}
 use Rattle.valuation.specs.declared.Pricing.{Pricing}
@@ -12,22 +12,13 @@ use Rattle.valuation.specs.declared.Pricing.{Pricing}
 unfoldable pub value : Pricing → ℕ → ℕ
 value t n = n * t .price * (10000 - t .haircut) / 100000000
 
--- the bounds within which the laws hold and the product fits 64 bits
-pub record Bounded (t : Pricing) : Type 0 where
-  pub price-le : t .price ≤ 3000000
-  pub haircut-le : t .haircut ≤ 9999
-
--- the largest nominal of one account that is worth no more than an amount
-unfoldable pub nominalWithin : Pricing → ℕ → ℕ
-nominalWithin t cents = largest (λ n. leb (value t n) cents) 500000000
-
 -- Records' table: "price 32 (1 to 3,000,000)", "haircut 16 (0 to 9,999 ..)"
 abbrev pub legalPricing : Pricing → Bool
-legalPricing t = leb 1 (t .price) && (leb (t .price) 3000000 && leb (t .haircut) 9999)
+legalPricing t = leb 1 (t .price) && (leb (t .price) greatestPrice && leb (t .haircut) greatestHaircut)
 
 -- a nominal of one account and security: 0 to 500,000,000
 abbrev pub legalNominal : ℕ → Bool
-legalNominal n = leb n 500000000
+legalNominal n = leb n greatestNominal
 
 -- the stand-alone valuation: the value, or 4 for a number out of its range
 unfoldable pub valued : ℕ → Pricing → CodedValue

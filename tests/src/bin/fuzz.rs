@@ -16,7 +16,8 @@ use yordzepa_tests::driver::{first_difference, jobs, shortest, Job};
 use yordzepa_tests::lists::Theme;
 use yordzepa_tests::second::book::Turn;
 
-/// As in the gate; every eighth seed has every read after every call.
+/// Bytes and some reads after every call, as in the gate; every eighth seed has every read after every
+/// call that changed the book.
 fn checks(_: Theme, seed: u64) -> Checks {
     Checks { bytes: true, reads: 4, sweep: if seed % 8 == 0 { 1 } else { 200 } }
 }
@@ -36,7 +37,8 @@ fn number<T: std::str::FromStr>(name: &str) -> Option<T> {
 /// The program that is compared.
 fn desk() -> impl Fn() -> Box<dyn Desk> + Sync {
     let wrong = env::var("WRONG").ok().filter(|name| !name.is_empty()).map(|name| {
-        let turn = Turn::WRONG.iter().find(|turn| format!("{turn:?}") == name);
+        let mut turns = Turn::WRONG.iter().chain(Turn::UNREACHED);
+        let turn = turns.find(|turn| format!("{turn:?}") == name);
         *turn.unwrap_or_else(|| {
             eprintln!("fuzz: no wrong turn is called {name}");
             exit(2)

@@ -25,6 +25,7 @@ impl Program {
             let security = &self.book.securities[s];
             if security.set_up()
                 && self.age(security.quote) <= u32::from(basket.greatest_age)
+                && !(self.takes(Turn::QuoteAheadIsOld) && security.quote > self.book.today)
                 && security.worth(security.lot) >= 1
             {
                 eligible |= 1 << s;

@@ -346,113 +346,151 @@ impl Program {
 }
 
 macro_rules! turns {
-    ($($(#[$text:meta])* $name:ident,)*) => {
+    ($($list:ident: $(#[$about:meta])* { $($(#[$text:meta])* $name:ident,)* })*) => {
         /// Wrong turns, one at a time, to see that the comparison finds each of them.
         #[derive(Clone, Copy, Debug, PartialEq, Eq)]
         pub enum Turn {
             /// None: the second program itself.
             Right,
-            $($(#[$text])* $name,)*
+            $($($(#[$text])* $name,)*)*
         }
 
         impl Turn {
-            /// Every wrong turn.
-            pub const WRONG: &'static [Turn] = &[$(Turn::$name,)*];
+            $($(#[$about])* pub const $list: &'static [Turn] = &[$(Turn::$name,)*];)*
         }
     };
 }
 
 turns! {
-    /// Every call gets the same code.
-    OneCode,
-    /// Every refusal gets the same code.
-    OneCodeForRefusals,
-    /// Every call is answered rightly and leaves the book as it was, but for an opening.
-    BookNeverMoves,
-    /// A recall that is refused by 16 moves the bonds.
-    RefusalWrites,
-    /// Nothing that is picked moves; every answer and total is as if it did.
-    PicksNothing,
-    /// What goes back to an account lacks one nominal, now and then.
-    LosesBond,
-    /// Pairs with the latest equal request.
-    LatestFirst,
-    /// Pairs with the equal request in the lowest row, whatever its number.
-    LowestRowFirst,
-    /// A giver's request pairs with a waiting taker's request although the taker is automatic.
-    WaitingTakerFirst,
-    /// A change of profile holds at once.
-    ProfileAtOnce,
-    /// The first change of a day counts.
-    FirstProfileOfDay,
-    /// The age of a price counts calendar days.
-    AgeInCalendarDays,
-    /// A position is valued lot by lot.
-    ValueByParcels,
-    /// A deposit's limit looks at the account alone.
-    DepositLimitOfAccount,
-    /// A cancel ends one row of a pair.
-    CancelOneSide,
-    /// A taker alone ends a pair.
-    TakerCancelsAlone,
-    /// FOPs settle before returns.
-    FopsFirst,
-    /// Only the first due pair settles.
-    FirstPairOnly,
-    /// Equal dates settle by the lower number of a pair.
-    OrderByLowerNumber,
-    /// A shortfall equal to the tolerance settles whole.
-    ToleranceOffByOne,
-    /// Partial settlement goes by the profiles of the day of settlement.
-    PartialOfToday,
-    /// A FOP may take an exposure above 10^13 with what it finds.
-    LimitByFound,
-    /// 10^13 itself is refused.
-    LimitOffByOne,
-    /// A return does not free bonds.
-    ReturnKeepsBonds,
-    /// Free stops where nothing is left to spare.
-    FreeStopsAtNothing,
-    /// The mark goes exposure by exposure, once.
-    MarkInOnePass,
-    /// The mark's B counts exposures that were below their amount, not those that took in.
-    WrongBOfMark,
-    /// The day change's B counts pairs.
-    WrongBOfDay,
-    /// A recall may pick the security that it gives back.
-    RecallKeepsSecurity,
-    /// A recall needs the new value plus tolerance to reach the exposure only.
-    RecallOffByOne,
-    /// A recall is held to the exposure alone, not to the value before.
-    RecallIgnoresBefore,
-    /// An exposure of 0 goes free although a waiting return names it.
-    FreesNamedExposure,
-    /// A closing is reached the day after.
-    ClosingDayLater,
-    /// Unpaired requests that settle today stay.
-    UnpairedStay,
-    /// The number 1,000,000,000 is given.
-    NumberOffByOne,
-    /// Requests: 7 before 5.
-    DayBeforeSetUp,
-    /// Requests: 15 before 14.
-    ExposureBeforeRow,
-    /// Recall: 10 before 12.
-    TooMuchBeforeNone,
-    /// The settlement's A counts the FOPs that were due.
-    AOfSettleCountsDue,
-    /// A request's B is the partner's row.
-    BOfRequestIsRow,
-    /// The mark's M is what was missing before the Pick.
-    MOfMarkBefore,
-    /// A recall's M is the growth of the position's value, not the value found.
-    MOfRecallGrowth,
-    /// The day change's M adds up what all exposures have, closed or not.
-    MOfDayCountsAll,
-    /// 14 with one row left that would do.
-    False14,
-    /// 15 although the pair's exposure is there.
-    False15,
-    /// 16 unless the exposure is covered whole.
-    False16,
+    WRONG:
+    /// Those that lists of calls show.
+    {
+        /// Every call gets the same code.
+        OneCode,
+        /// Every refusal gets the same code.
+        OneCodeForRefusals,
+        /// Every call is answered rightly and leaves the book as it was, but for an opening.
+        BookNeverMoves,
+        /// A recall that is refused by 16 moves the bonds.
+        RefusalWrites,
+        /// Nothing that is picked moves; every answer and total is as if it did.
+        PicksNothing,
+        /// What goes back to an account lacks one nominal, now and then.
+        LosesBond,
+        /// Pairs with the latest equal request.
+        LatestFirst,
+        /// Pairs with the equal request in the lowest row, whatever its number.
+        LowestRowFirst,
+        /// A giver's request pairs with a waiting taker's request although the taker is automatic.
+        WaitingTakerFirst,
+        /// A change of profile holds at once.
+        ProfileAtOnce,
+        /// The first change of a day counts.
+        FirstProfileOfDay,
+        /// The age of a price counts calendar days.
+        AgeInCalendarDays,
+        /// A position is valued lot by lot.
+        ValueByParcels,
+        /// A deposit's limit looks at the account alone.
+        DepositLimitOfAccount,
+        /// A cancel ends one row of a pair.
+        CancelOneSide,
+        /// A taker alone ends a pair.
+        TakerCancelsAlone,
+        /// FOPs settle before returns.
+        FopsFirst,
+        /// Only the first due pair settles.
+        FirstPairOnly,
+        /// Equal dates settle by the lower number of a pair.
+        OrderByLowerNumber,
+        /// A shortfall equal to the tolerance settles whole.
+        ToleranceOffByOne,
+        /// Partial settlement goes by the profiles of the day of settlement.
+        PartialOfToday,
+        /// A FOP may take an exposure above 10^13 with what it finds.
+        LimitByFound,
+        /// 10^13 itself is refused.
+        LimitOffByOne,
+        /// A return does not free bonds.
+        ReturnKeepsBonds,
+        /// Free stops where nothing is left to spare.
+        FreeStopsAtNothing,
+        /// The mark goes exposure by exposure, once.
+        MarkInOnePass,
+        /// The mark's B counts exposures that were below their amount, not those that took in.
+        WrongBOfMark,
+        /// The day change's B counts pairs.
+        WrongBOfDay,
+        /// A recall may pick the security that it gives back.
+        RecallKeepsSecurity,
+        /// A recall needs the new value plus tolerance to reach the exposure only.
+        RecallOffByOne,
+        /// A recall is held to the exposure alone, not to the value before.
+        RecallIgnoresBefore,
+        /// An exposure of 0 goes free although a waiting return names it.
+        FreesNamedExposure,
+        /// A closing is reached the day after.
+        ClosingDayLater,
+        /// Unpaired requests that settle today stay.
+        UnpairedStay,
+        /// The number 1,000,000,000 is given.
+        NumberOffByOne,
+        /// Requests: 7 before 5.
+        DayBeforeSetUp,
+        /// Requests: 15 before 14.
+        ExposureBeforeRow,
+        /// Recall: 10 before 12.
+        TooMuchBeforeNone,
+        /// The settlement's A counts the FOPs that were due.
+        AOfSettleCountsDue,
+        /// A request's B is the partner's row.
+        BOfRequestIsRow,
+        /// The mark's M is what was missing before the Pick.
+        MOfMarkBefore,
+        /// A recall's M is the growth of the position's value, not the value found.
+        MOfRecallGrowth,
+        /// The day change's M adds up what all exposures have, closed or not.
+        MOfDayCountsAll,
+        /// 14 with one row left that would do.
+        False14,
+        /// 15 although the pair's exposure is there.
+        False15,
+        /// 16 unless the exposure is covered whole.
+        False16,
+    }
+
+    UNREACHED:
+    /// Those that show only on books that no list of calls reaches.
+    {
+        /// An ended pair that has settled a part goes on settling.
+        EndedSettlesOn,
+        /// A cancel of an ended request that has settled a part gives 13.
+        EndedGives13,
+        /// A cancel of an ended request that has settled whole gives 12.
+        EndedWholeGives12,
+        /// A pair that has settled a part is due, whatever its day.
+        BegunIsDue,
+        /// A pair that has settled a part may go on in parts.
+        BegunGoesOnInParts,
+        /// The day change drops unpaired requests that settle today, not those of earlier days.
+        EarlierUnpairedStay,
+        /// The day change drops unpaired FOPs whose closing is reached.
+        UnpairedClosedDropped,
+        /// Pairing takes a cancel note away.
+        PairingForgetsNote,
+        /// A pair that both owners have cancelled settles no more, though it has not ended.
+        NotedByBothIsEnded,
+        /// As long as no row was dropped, number n is looked for in row n - 1.
+        NumbersAreRows,
+        /// A book with bonds of a security that is not set up is not sound.
+        BondsOfSetUpOnly,
+        /// The first set-up of a participant empties its account.
+        SetUpEmptiesAccount,
+        /// A quote after today is too old.
+        QuoteAheadIsOld,
+        /// A closing is reached on its day, not later.
+        ClosingOnItsDay,
+        /// Exposures of 0 go free only at a day change that drops a row or closes an exposure.
+        FreesWhatChangedOnly,
+    }
 }

@@ -1,6 +1,6 @@
 //! Document 01, Steps, 12.
 
-use super::book::{Deal, Program, Request, Turn, EXPOSURES, ROWS, SECURITIES};
+use super::book::{Deal, Key, Program, Request, Turn, EXPOSURES, ROWS, SECURITIES};
 use super::codes::DAY;
 use super::notes::{Branch, Notes};
 use super::steps::Totals;
@@ -31,9 +31,15 @@ impl Program {
 
         // "drop FOP pairs with closing date reached"
         let reached_by = if self.takes(Turn::ClosingDayLater) { new_day - 1 } else { new_day };
+        let on_its_day = self.takes(Turn::ClosingOnItsDay);
+        let alone_too = self.takes(Turn::UnpairedClosedDropped);
+        let reached = |key: Key| match on_its_day {
+            true => key.closing == new_day,
+            false => key.closing_reached(reached_by),
+        };
         totals.b += self.drop_rows(|_, request| {
-            let reached = request.key().map_or(false, |key| key.closing_reached(reached_by));
-            if request.partner.is_some() && reached {
+            let belongs = request.partner.is_some() || alone_too;
+            if belongs && request.key().map_or(false, reached) {
                 notes.reached(Branch::DropClosedPair);
                 return true;
             }
@@ -44,7 +50,7 @@ impl Program {
         let mut closed = [false; EXPOSURES];
         for (e, closed) in closed.iter_mut().enumerate() {
             let used = match &mut self.book.exposures[e] {
-                Some(used) if used.key.closing_reached(reached_by) => used,
+                Some(used) if reached(used.key) => used,
                 _ => continue,
             };
             *closed = true;
@@ -72,7 +78,10 @@ impl Program {
             _ => false,
         });
 
-        self.free_exposures(notes);
+        let only_changed = self.takes(Turn::FreesWhatChangedOnly);
+        if !only_changed || totals.b > 0 || closed.contains(&true) {
+            self.free_exposures(notes);
+        }
         if self.takes(Turn::WrongBOfDay) {
             totals.b /= 2;
         }
@@ -87,13 +96,17 @@ impl Program {
             true => self.book.today - 1,
             false => self.book.today,
         };
+        let first = match self.takes(Turn::EarlierUnpairedStay) {
+            true => self.book.today,
+            false => 0,
+        };
         self.drop_rows(|_, request| {
             let unpaired = request.partner.is_none();
             if request.settled == request.amount {
                 notes.reached(Branch::DropSettled);
             } else if request.ended {
                 notes.reached(Branch::DropEnded);
-            } else if unpaired && request.settlement <= up_to {
+            } else if unpaired && (first..=up_to).contains(&request.settlement) {
                 notes.reached(Branch::DropUnpaired);
             } else {
                 if !unpaired && request.settled > 0 {

@@ -194,13 +194,31 @@ impl Program {
     /// change", although it is live no more.
     pub(super) fn cancel_code(&self, participant: u8, number: u32) -> Result<usize, u64> {
         refuse_if(self.book.profile(participant).is_none(), NOT_SET_UP)?;
-        let row = self.book.row_of(number).ok_or(NONE_SUCH)?;
+        let row = self.row_of(number).ok_or(NONE_SUCH)?;
         let request = self.book.requests[row].as_ref().ok_or(NONE_SUCH)?;
         refuse_if(request.owner() != participant, NONE_SUCH)?;
+        if self.takes(Turn::EndedWholeGives12) {
+            refuse_if(request.ended, NONE_SUCH)?;
+        }
         refuse_if(request.settled == request.amount, SETTLED)?;
+        if self.takes(Turn::EndedGives13) {
+            refuse_if(request.settled != 0, SETTLED)?;
+        }
         refuse_if(!request.live(), NONE_SUCH)?;
         refuse_if(request.settled != 0, SETTLED)?;
         Ok(row)
+    }
+
+    /// The row of a request's number.
+    fn row_of(&self, number: u32) -> Option<usize> {
+        let book = &self.book;
+        if self.takes(Turn::NumbersAreRows)
+            && book.used_rows().count() + 1 == book.next_number as usize
+            && (1..book.next_number).contains(&number)
+        {
+            return Some(number as usize - 1);
+        }
+        book.row_of(number)
     }
 
     /// Kind 11 up to 10; "For kind 11, 12 comes before 10". 16 is given by the step.

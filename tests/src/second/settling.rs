@@ -25,12 +25,15 @@ impl Program {
         let mut count = 0;
         for (row, request) in self.book.used_rows() {
             if request.side != Side::Giver
-                || !request.live()
-                || request.settlement > self.book.today
+                || !(request.live() || self.goes_on(request))
+                || (request.settlement > self.book.today && !self.has_begun(request))
             {
                 continue;
             }
             if let Some(partner) = self.partner_of(request) {
+                if self.takes(Turn::NotedByBothIsEnded) && request.cancelled && partner.cancelled {
+                    continue;
+                }
                 due[count] = self.due(row, request, &partner);
                 count += 1;
             }
@@ -75,6 +78,15 @@ impl Program {
             totals.m += settled;
         }
         totals
+    }
+
+    /// Two wrong turns of pairs that have settled a part.
+    fn goes_on(&self, request: &Request) -> bool {
+        self.takes(Turn::EndedSettlesOn) && request.settled > 0 && request.rest() > 0
+    }
+
+    fn has_begun(&self, request: &Request) -> bool {
+        self.takes(Turn::BegunIsDue) && request.settled > 0
     }
 
     fn partner_of(&self, request: &Request) -> Option<Request> {
@@ -202,6 +214,6 @@ impl Program {
             let allows = |participant| self.book.profile(participant).map_or(false, |p| p.partial);
             return allows(request.giver) && allows(request.taker);
         }
-        request.partial
+        request.partial || (self.takes(Turn::BegunGoesOnInParts) && request.settled > 0)
     }
 }

@@ -1,9 +1,9 @@
 //! Document 01, The desk's business: "A book is sound when ..".
 
 use super::book::{
-    Book, Deal, Exposure, Key, Nominals, Program, Request, BASKETS, EXPOSURES, GREATEST_AMOUNT,
-    GREATEST_EXPOSURE, GREATEST_HAIRCUT, GREATEST_HOLDING, GREATEST_LOT, GREATEST_PRICE,
-    GREATEST_TOLERANCE, LAST_NUMBER, PARTICIPANTS, ROWS, SECURITIES,
+    Book, Deal, Exposure, Key, Nominals, Program, Request, Turn, BASKETS, EXPOSURES,
+    GREATEST_AMOUNT, GREATEST_EXPOSURE, GREATEST_HAIRCUT, GREATEST_HOLDING, GREATEST_LOT,
+    GREATEST_PRICE, GREATEST_TOLERANCE, LAST_NUMBER, PARTICIPANTS, ROWS, SECURITIES,
 };
 use super::days::Days;
 
@@ -11,7 +11,14 @@ impl Program {
     /// Made before every call but an opening, and before every read.
     pub fn is_sound(&self) -> bool {
         is_sound(&self.book, self.days)
+            && !(self.takes(Turn::BondsOfSetUpOnly) && has_bonds_not_set_up(&self.book))
     }
+}
+
+/// What the sentence lets pass, for a wrong turn.
+fn has_bonds_not_set_up(book: &Book) -> bool {
+    let lodged = |s: usize| book.accounts.iter().any(|account| account[s] != 0);
+    (0..SECURITIES).any(|s| !book.securities[s].set_up() && lodged(s))
 }
 
 /// The soundness sentence, clause by clause.

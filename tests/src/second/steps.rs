@@ -1,7 +1,9 @@
 //! Document 01, Steps: kinds 0 to 8. Kinds 9 to 12 are in `settling`, `marking` and `closing`.
 
 use super::actions::{Action, Entry};
-use super::book::{Book, Exposure, Participant, Profile, Program, Request, Security, Side, Turn};
+use super::book::{
+    Book, Exposure, Participant, Profile, Program, Request, Security, Side, Turn, SECURITIES,
+};
 use super::codes::{Pairing, NO_ROW, UNSOUND};
 use super::notes::{Branch, Notes};
 use super::SHAPE;
@@ -135,7 +137,12 @@ impl Program {
         let at_once = self.takes(Turn::ProfileAtOnce);
         let first_counts = self.takes(Turn::FirstProfileOfDay);
         match &mut self.book.participants[number] {
-            None => self.book.participants[number] = Some(Participant { profile, waiting: None }),
+            None => {
+                self.book.participants[number] = Some(Participant { profile, waiting: None });
+                if self.turn == Turn::SetUpEmptiesAccount {
+                    self.book.accounts[number] = [0; SECURITIES];
+                }
+            }
             Some(participant) => {
                 notes.reached(match participant.waiting {
                     None => Branch::ProfileWaits,
@@ -255,6 +262,7 @@ impl Program {
             if let Some(request) = &mut self.book.requests[this] {
                 request.partner = Some(other as u8);
                 request.partial = partial;
+                request.cancelled &= self.turn != Turn::PairingForgetsNote;
             }
         }
         let key = match request.key() {

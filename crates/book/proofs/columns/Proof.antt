@@ -4,22 +4,23 @@ use mathlib.Core.Path.{_≡_}
 use Prim.Native.Nat.{_+_, _-_, _/_, _%_, _≤_}
 use native.Mathlib.Omega.{arith}
 use borrow.Author.Needs.{needs}
+use lib.ListN.{getD}
 use Rattle.laws.specs.Filled.{filled}
 use Rattle.laws.proofs.Filled.{filled-first, filled-next}
-use Rattle.book.specs.Layout.{lots}
+use Rattle.book.specs.Layout.{securityTables}
 use Rattle.book.specs.State.{state}
 use Rattle.book.proofs.Securities.{column-read}
 use Rattle.book.proofs.columns.Statement.{statement}
 use Rattle.book.proofs.columns.Tie as tie
 
 abbrev Inv-loop : tie.InvT-loop
-Inv-loop book columns₀ k₀ columns k = (k ≤ 256) × (columns ≡ filled (λ j. state book (lots + j / 64) (j % 64)) 256 k)
+Inv-loop book columns₀ k₀ columns k = (k ≤ 256) × (columns ≡ filled (λ j. state book (getD securityTables (j / 64) 0) (j % 64)) 256 k)
 
 abbrev μ-loop : tie.MeasureT-loop
 μ-loop book columns₀ k₀ columns k = 256 - k
 
 loop-holds : tie.Need-loop-holds Inv-loop μ-loop
-loop-holds c = (omega arith, filled-first (λ j. state (c .before .args .book .now) (lots + j / 64) (j % 64)) 256)
+loop-holds c = (omega arith, filled-first (λ j. state (c .before .args .book .now) (getD securityTables (j / 64) 0) (j % 64)) 256)
 
 mul-word : tie.Need-mul-word Inv-loop μ-loop
 mul-word c = search needs
@@ -47,7 +48,7 @@ loop-again c =
     let s = c .before .before .before .before in
     let l = c .before .before .loop in
     let read = column-read (s .args .book .now) (l .k) (omega arith) (c .word .ensures .0) in
-    (omega arith, filled-next (λ j. state (s .args .book .now) (lots + j / 64) (j % 64)) 256 (l .k) (l .columns) read (l .inv .1))
+    (omega arith, filled-next (λ j. state (s .args .book .now) (getD securityTables (j / 64) 0) (j % 64)) 256 (l .k) (l .columns) read (l .inv .1))
 
 returns : tie.Need-returns Inv-loop μ-loop
 returns c = let e : c .before .loop .k ≡ 256 = omega arith in rw e at (c .before .loop .inv .1)

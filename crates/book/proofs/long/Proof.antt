@@ -1,6 +1,6 @@
 -- `book::long` meets its contract.
 -- Assumes nothing.
-use Rattle.book.proofs.Words.{long-at}
+use Rattle.laws.proofs.Numbers.{number-halves}
 use borrow.Author.Needs.{needs}
 use Rattle.book.proofs.long.Statement.{statement}
 use Rattle.book.proofs.long.Tie as tie
@@ -21,7 +21,7 @@ add-result : tie.Need-add-result
 add-result c = search needs
 
 returns : tie.Need-returns
-returns c = search long-at
+returns c = search (number-halves 4)
 
 pub long-spec : {M : Type 1} → statement M
 long-spec =

@@ -1,6 +1,6 @@
 -- `book::put_long` meets its contract.
 -- Assumes nothing.
-use Rattle.book.proofs.Words.{long-put}
+use Rattle.laws.proofs.Patches.{put-halves}
 use borrow.Author.Needs.{needs}
 use Rattle.book.proofs.put_long.Statement.{statement}
 use Rattle.book.proofs.put_long.Tie as tie
@@ -18,7 +18,7 @@ same-length : tie.Need-same-length
 same-length c = search needs
 
 returns : tie.Need-returns
-returns c = search long-put
+returns c = search (put-halves 4)
 
 pub put-long-spec : {M : Type 1} → statement M
 put-long-spec =

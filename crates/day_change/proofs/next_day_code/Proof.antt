@@ -2,7 +2,7 @@
 -- Assumes nothing.
 use native.Mathlib.Omega.{arith}
 use Rattle.book.specs.State.{state}
-use Rattle.facts.proofs.Facts.{sound-facts}
+use Rattle.facts.proofs.Written.{sound-facts}
 use Rattle.facts.proofs.Stock.{today-le}
 use Rattle.day_change.proofs.Returns.{no-next-day, a-next-day}
 use borrow.Author.Needs.{needs}

@@ -2,9 +2,9 @@
 -- Assumes nothing.
 use mathlib.Core.Path.{sym, _∙_}
 use Rattle.book.specs.State.{state}
-use Rattle.rules.specs.DayChange.{exposureClosed}
-use Rattle.day_exposures.specs.Parts.{closesOn}
-use Rattle.day_exposures.proofs.Exposures.{closed-used, entire-back}
+use Rattle.rules.specs.DayChange.{isExposureClosed, exposureClosed}
+use Rattle.day_exposures.proofs.Exposures.{entire-back}
+use Rattle.day_laws.proofs.Closed.{closed-used}
 use Rattle.day_rows.proofs.OnEach.{step-taken, step-left}
 use borrow.Author.Needs.{needs}
 use Rattle.day_exposures.proofs.close_exposure.Statement.{statement}
@@ -16,18 +16,12 @@ is-exposure-closed-requires c κs = search needs
 get-requires : tie.Need-get-requires
 get-requires c κs = search needs
 
-mul-row-at : tie.Need-mul-row-at
-mul-row-at c = search needs
-
-row-at-requires : tie.Need-row-at-requires
-row-at-requires c κs = search needs
-
-give-back-requires : tie.Need-give-back-requires
-give-back-requires c κs =
-    let yes = c .before .before .before .before .before .before in
+give-position-requires : tie.Need-give-position-requires
+give-position-requires c κs =
+    let yes = c .before .before .before in
     let s = yes .before .before .before .before in
-    let used = closed-used (state (s .args .book .now)) (s .args .day) (s .args .e) (sym (yes .before .is-exposure-closed .ensures) ∙ yes .if1 .taken) in
-    (s .pre .0, entire-back (state (s .args .book .now)) (s .args .e) (s .pre .1) used (s .pre .2) (c .before .before .row-at .ensures))
+    let before = state (s .args .book .now) in
+    (s .pre .0, entire-back before (s .args .e) (s .pre .1) (closed-used before (s .args .e) (sym (yes .before .is-exposure-closed .ensures) ∙ yes .if1 .taken)) (s .pre .2))
 
 set-requires : tie.Need-set-requires
 set-requires c κs = search needs
@@ -38,14 +32,13 @@ same-length c = search needs
 returns : tie.Need-returns
 returns c =
     let back = c .before .before .before .before .before .before in
-    let row = back .before .before .before in
-    let got = row .before .before in
+    let got = back .before .before in
     let yes = got .before .before in
     let s = yes .before .before .before .before in
     let test = yes .before .is-exposure-closed .ensures in (
       rw (sym test ∙ yes .if1 .taken) (got .get .ensures),
-      step-taken (closesOn (s .args .day)) exposureClosed (state (s .args .book .now)) (s .args .e) test (yes .if1 .taken)
-          (rw (c .before .before .set .ensures, back .give-back .ensures, row .row-at .ensures)),
+      step-taken isExposureClosed exposureClosed (state (s .args .book .now)) (s .args .e) test (yes .if1 .taken)
+          (rw (c .before .before .set .ensures, back .give-position .ensures)),
     )
 
 same-length-2 : tie.Need-same-length-2
@@ -56,7 +49,7 @@ returns-2 c =
     let s = c .before .before .before .before in
     let test = c .before .is-exposure-closed .ensures in (
       rw (sym test ∙ c .if1 .left),
-      step-left (closesOn (s .args .day)) exposureClosed (state (s .args .book .now)) (s .args .e) test (c .if1 .left),
+      step-left isExposureClosed exposureClosed (state (s .args .book .now)) (s .args .e) test (c .if1 .left),
     )
 
 pub close-exposure-spec : {M : Type 1} → statement M
@@ -65,9 +58,7 @@ close-exposure-spec =
     (tie.spec
     is-exposure-closed-requires
     get-requires
-    mul-row-at
-    row-at-requires
-    give-back-requires
+    give-position-requires
     set-requires
     same-length
     returns

@@ -1,7 +1,6 @@
 -- `day_exposures::mark_rows` meets its contract: the exposures of the rows below `i` are marked.
 -- Assumes nothing.
 use Prim.Native.Nat.{_-_, _≤_}
-use mathlib.Core.Path.{_≡_}
 use native.Mathlib.Omega.{arith}
 use Rattle.book.specs.State.{state}
 use Rattle.day_exposures.specs.Parts.{Marked}

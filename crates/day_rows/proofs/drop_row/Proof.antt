@@ -2,8 +2,8 @@
 -- Assumes nothing.
 use mathlib.Core.Path.{sym, _∙_}
 use Rattle.book.specs.State.{state}
-use Rattle.rules.specs.DayChange.{blanked}
-use Rattle.day_rows.specs.Parts.{dropsOn}
+use Rattle.rules.specs.DayChange.{rowDropped}
+use Rattle.day_rows.specs.Parts.{drops}
 use Rattle.day_rows.proofs.OnEach.{step-taken, step-left}
 use Rattle.day_rows.proofs.Rows.{in-requests, cleared-row}
 use borrow.Author.Needs.{needs}
@@ -27,7 +27,7 @@ returns c =
     let s = yes .before .before .before .before in
     let before = state (s .args .book .now) in (
       rw (sym (yes .before .is-dropped .ensures) ∙ yes .if1 .taken),
-      step-taken (dropsOn (s .args .day)) blanked before (s .args .i) (yes .before .is-dropped .ensures) (yes .if1 .taken)
+      step-taken (drops (s .args .pass)) rowDropped before (s .args .i) (yes .before .is-dropped .ensures) (yes .if1 .taken)
           (c .before .before .clear .ensures ∙ cleared-row before (s .args .i)),
     )
 
@@ -38,7 +38,7 @@ returns-2 : tie.Need-returns-2
 returns-2 c =
     let s = c .before .before .before .before in (
       rw (sym (c .before .is-dropped .ensures) ∙ c .if1 .left),
-      step-left (dropsOn (s .args .day)) blanked (state (s .args .book .now)) (s .args .i) (c .before .is-dropped .ensures) (c .if1 .left),
+      step-left (drops (s .args .pass)) rowDropped (state (s .args .book .now)) (s .args .i) (c .before .is-dropped .ensures) (c .if1 .left),
     )
 
 pub drop-row-spec : {M : Type 1} → statement M

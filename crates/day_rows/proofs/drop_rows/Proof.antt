@@ -9,10 +9,10 @@ use Rattle.laws.specs.Search.{count}
 use Rattle.laws.proofs.Least.{count-le, count-end}
 use Rattle.book.specs.Layout.{bookLength}
 use Rattle.book.specs.State.{state}
-use Rattle.facts.proofs.Facts.{sound-facts}
-use Rattle.rules.specs.DayChange.{blanked, onEach, rowsDropped}
+use Rattle.facts.proofs.Written.{sound-facts}
+use Rattle.rules.specs.DayChange.{rowDropped, onEach, rowsDropped}
 use Rattle.day_laws.proofs.Each.{no-turn}
-use Rattle.day_rows.specs.Parts.{dropsOn}
+use Rattle.day_rows.specs.Parts.{drops}
 use Rattle.day_rows.proofs.OnEach.{loop-steps, loop-counts}
 use Rattle.day_rows.proofs.Rows.{rows-apart, later-named, sound-named}
 use borrow.Author.Needs.{needs}
@@ -20,27 +20,27 @@ use Rattle.day_rows.proofs.drop_rows.Statement.{statement}
 use Rattle.day_rows.proofs.drop_rows.Tie as tie
 
 abbrev Inv-loop : tie.InvT-loop
-Inv-loop book₀ day dropped₀ i₀ book dropped i =
+Inv-loop book₀ pass dropped₀ i₀ book dropped i =
     (i ≤ 256)
     × (length book ≡ bookLength)
-    × (dropped + count (dropsOn day (state book₀)) (256 - i) i ≡ count (dropsOn day (state book₀)) 256 0)
-    × (state book ≡ onEach (dropsOn day (state book₀)) blanked i (state book₀))
+    × (dropped + count (drops pass (state book₀)) (256 - i) i ≡ count (drops pass (state book₀)) 256 0)
+    × (state book ≡ onEach (drops pass (state book₀)) rowDropped i (state book₀))
 
 abbrev μ-loop : tie.MeasureT-loop
-μ-loop book₀ day dropped₀ i₀ book dropped i = 256 - i
+μ-loop book₀ pass dropped₀ i₀ book dropped i = 256 - i
 
 loop-holds : tie.Need-loop-holds Inv-loop μ-loop
 loop-holds c =
     let s = c .before in
-    let t = dropsOn (s .args .day) (state (s .args .book .now)) in
-    (omega arith, s .pre .0, zero-add (count t 256 0), sym (no-turn t blanked (state (s .args .book .now))))
+    let t = drops (s .args .pass) (state (s .args .book .now)) in
+    (omega arith, s .pre .0, zero-add (count t 256 0), sym (no-turn t rowDropped (state (s .args .book .now))))
 
 drop-row-requires : tie.Need-drop-row-requires Inv-loop μ-loop
 drop-row-requires c κs =
     let l = c .before .before in
     let s = l .before .before in
     let first = state (s .args .book .now) in
-    let named = later-named (dropsOn (s .args .day) first) first (l .loop .i) (sound-named first (sound-facts first (s .pre .1)) (l .loop .i) (omega arith)) in
+    let named = later-named (drops (s .args .pass) first) first (l .loop .i) (sound-named first (sound-facts first (s .pre .1)) (l .loop .i) (omega arith)) in
     (l .loop .inv .1, omega arith, rw (l .loop .inv .3) named)
 
 add-dropped : tie.Need-add-dropped Inv-loop μ-loop
@@ -51,8 +51,8 @@ add-dropped c =
     let r = c .before .before .drop-row .ensures in
     omega (
       arith,
-      loop-counts (dropsOn (a .day)) blanked (rows-apart (a .day)) first 256 (l .loop .i) (l .loop .dropped) (omega arith) (l .loop .inv .3) (r .0) (l .loop .inv .2),
-      count-le (dropsOn (a .day) first) 256 0,
+      loop-counts (drops (a .pass)) rowDropped (rows-apart (a .pass)) first 256 (l .loop .i) (l .loop .dropped) (omega arith) (l .loop .inv .3) (r .0) (l .loop .inv .2),
+      count-le (drops (a .pass) first) 256 0,
     )
 
 add-i : tie.Need-add-i Inv-loop μ-loop
@@ -69,8 +69,8 @@ loop-again c =
     let r = c .before .before .drop-row .ensures in (
       omega arith,
       search needs,
-      loop-counts (dropsOn (a .day)) blanked (rows-apart (a .day)) first 256 (l .loop .i) (l .loop .dropped) (omega arith) (l .loop .inv .3) (r .0) (l .loop .inv .2),
-      loop-steps (dropsOn (a .day)) blanked (rows-apart (a .day)) first (l .loop .i) (l .loop .inv .3) (r .1),
+      loop-counts (drops (a .pass)) rowDropped (rows-apart (a .pass)) first 256 (l .loop .i) (l .loop .dropped) (omega arith) (l .loop .inv .3) (r .0) (l .loop .inv .2),
+      loop-steps (drops (a .pass)) rowDropped (rows-apart (a .pass)) first (l .loop .i) (l .loop .inv .3) (r .1),
     )
 
 same-length : tie.Need-same-length Inv-loop μ-loop
@@ -82,7 +82,7 @@ returns c =
     let l = c .before in
     let s = l .before .before in
     let e : l .loop .i ≡ 256 = omega arith in
-    (omega (arith, count-end (dropsOn (s .args .day) (state (s .args .book .now))) 256 (l .loop .i) (omega arith)), rw (← e) (l .loop .inv .3))
+    (omega (arith, count-end (drops (s .args .pass) (state (s .args .book .now))) 256 (l .loop .i) (omega arith)), rw (← e) (l .loop .inv .3))
 
 pub drop-rows-spec : {M : Type 1} → statement M
 drop-rows-spec =

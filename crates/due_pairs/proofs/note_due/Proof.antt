@@ -1,10 +1,12 @@
 -- `due_pairs::note_due` meets its contract: a key fits, since days and numbers are small.
 -- Assumes nothing.
+use mathlib.Core.Path.{sym, _∙_}
 use native.Mathlib.Omega.{arith}
 use Prim.Native.Nat.{_<_}
 use Rattle.book.specs.State.{state}
 use Rattle.due_pairs.proofs.Keys.{due-small, not-noted, noted}
 use borrow.Author.Needs.{needs}
+use borrow.Author.Tests.{not-false}
 use Rattle.due_pairs.proofs.note_due.Statement.{statement}
 use Rattle.due_pairs.proofs.note_due.Tie as tie
 
@@ -12,7 +14,7 @@ small : (c : tie.After-order-of) → c .order-of .result < 72057594037927935
 small c =
     let due = c .before .before in
     let s = due .before .before in
-    due-small (state (s .args .book .now)) (s .args .kind) (s .args .i) (s .pre .1) (s .pre .2) (due .is-due .ensures) (c .before .if1 .left) (c .order-of .ensures)
+    rw (c .order-of .ensures) (due-small (state (s .args .book .now)) (s .args .kind) (s .args .i) (s .pre .1) (s .pre .2) (sym (due .is-due .ensures) ∙ not-false _ (c .before .if1 .left)))
 
 is-due-requires : tie.Need-is-due-requires
 is-due-requires c κs = search needs

@@ -5,13 +5,13 @@ use Prim.Native.Nat.{_-_, _≤_}
 use native.Mathlib.Omega.{arith}
 use lib.ListN.{length, take, length-set}
 use borrow.Author.Needs.{needs}
-use Rattle.line_text.specs.Text.{put}
-use Rattle.line_text.proofs.Texts.{put-none, put-digit}
+use Rattle.line_text.specs.Buffer.{withText}
+use Rattle.line_text.proofs.Texts.{text-none, text-digit}
 use Rattle.line_text.proofs.put_digits.Statement.{statement}
 use Rattle.line_text.proofs.put_digits.Tie as tie
 
 abbrev Inv-loop : tie.InvT-loop
-Inv-loop lines₀ at count digits i₀ lines i = (i ≤ count) × (count ≤ 20) × (length digits ≡ 20) × (length lines ≡ length lines₀) × (lines ≡ put lines₀ at (take i digits))
+Inv-loop lines₀ at count digits i₀ lines i = (i ≤ count) × (count ≤ 20) × (length digits ≡ 20) × (length lines ≡ length lines₀) × (lines ≡ withText lines₀ at (take i digits))
 
 abbrev μ-loop : tie.MeasureT-loop
 μ-loop lines₀ at count digits i₀ lines i = count - i
@@ -19,7 +19,7 @@ abbrev μ-loop : tie.MeasureT-loop
 loop-holds : tie.Need-loop-holds Inv-loop μ-loop
 loop-holds c =
     let sized : length (c .args .t3) ≡ 20 = search needs in
-    (omega arith, omega arith, sized, refl, put-none (c .args .lines .now) (c .args .at))
+    (omega arith, omega arith, sized, refl, text-none (c .args .lines .now) (c .args .at))
 
 array-read-lines : tie.Need-array-read-lines Inv-loop μ-loop
 array-read-lines c = search needs
@@ -40,7 +40,7 @@ loop-again : tie.Need-loop-again Inv-loop μ-loop
 loop-again c =
     let s = c .before .before .args in
     let l = c .before .loop in
-    (omega arith, omega arith, l .inv .2, simp length-set (l .inv .3), rw (l .inv .4) (put-digit (s .lines .now) (s .t3) (s .at) (l .i) (omega arith) (omega arith)))
+    (omega arith, omega arith, l .inv .2, simp length-set (l .inv .3), rw (l .inv .4) (text-digit (s .lines .now) (s .t3) (s .at) (l .i) (omega arith) (omega arith)))
 
 add-result : tie.Need-add-result Inv-loop μ-loop
 add-result c = search needs

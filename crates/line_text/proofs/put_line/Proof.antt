@@ -2,7 +2,7 @@
 -- Assumes nothing.
 use borrow.Author.Needs.{needs}
 use denote.Ref.{now}
-use Rattle.line_text.specs.Text.{answerOf}
+use Rattle.line_text.specs.Buffer.{answerOf}
 use Rattle.line_text.proofs.Texts.{line-put}
 use Rattle.line_text.proofs.put_line.Statement.{statement}
 use Rattle.line_text.proofs.put_line.Tie as tie

@@ -1,8 +1,6 @@
 -- `lines::serve_record` meets its contract.
 -- Assumes nothing.
 use mathlib.Core.Path.{refl}
-use Prim.Native.Nat.{_+_}
-use native.Mathlib.Omega.{arith}
 use lib.ListN.{getD}
 use borrow.Author.Needs.{needs}
 use Rattle.rules.specs.Call.{callAnswer}
@@ -36,8 +34,8 @@ returns c =
     let s = c .before .before .before .before .before .before .before .before .before .before .before .before .before .before .before .before in
     let call = c .before .before .before .before .before .before .before .before .before .before .engine-call in
     let line = c .before .before .put-line in
-    let text = answer-put (s .args .lines .now) (line .last .0) (call .last .1 .1 .0) (s .args .p .waiting) (line .result) (s .args .p .place + 1) (getD (s .args .bytes .now) 0 0) (callAnswer (s .args .book .now) (s .args .bytes .now)) (call .ensures .1) (line .ensures) in
-    ((refl, refl, omega (arith, line .ensures .1, s .pre .3)), (call .ensures .0, (text .0, text .1)))
+    let text = answer-put (s .args .lines .now) (line .last .0) (call .last .1 .1 .0) (s .args .p .waiting) (line .result) (s .args .p .place) (getD (s .args .bytes .now) 0 0) (callAnswer (s .args .book .now) (s .args .bytes .now)) (call .ensures .1) (line .ensures) in
+    ((refl, refl, line .ensures .1), (call .ensures .0, (text .0, text .1)))
 
 pub serve-record-spec : {M : Type 1} → statement M
 serve-record-spec =

@@ -4,7 +4,7 @@ use mathlib.Core.Path.{_∙_}
 use Rattle.bonds.proofs.Rows.{bounded, row-within}
 use Rattle.book.specs.State.{state}
 use Rattle.rules.specs.Marking.{excessBack}
-use Rattle.mark_steps.proofs.Steps.{unused-step, excess-gives, excess-step, excess-missing}
+use Rattle.mark_steps.proofs.Steps.{free-empty, unused-step, excess-gives, excess-step, excess-missing}
 use Rattle.mark_steps.proofs.Values.{missing-unused}
 use borrow.Author.Needs.{needs}
 use Rattle.mark_steps.proofs.free_excess.Statement.{statement}
@@ -41,7 +41,7 @@ give-any-back-requires c κs =
     let row = free .before .before .before .before in
     let used = row .before .before .before in
     let s = used .before .before .before in
-    (s .pre .0 .long, excess-gives (s .pre .0) (s .pre .1) (λ i. used .before .before .slice-known .given i .fits) (used .get .ensures) (row .before .before .if1 .left) (row .row-at .ensures) (free .before .before .get2 .ensures) (free .free .ensures))
+    (s .pre .0 .long, excess-gives (s .pre .0) (s .pre .1) (λ i. used .before .before .slice-known .given i .fits) (used .get .ensures) (row .before .before .if1 .left) (row .row-at .ensures) (free .before .before .get2 .ensures) (free .free .ensures), free-empty _ _ _ (free .free .ensures))
 
 missing-from-requires : tie.Need-missing-from-requires
 missing-from-requires c κs = search needs

@@ -1,13 +1,14 @@
 -- `mark_steps::search_missing` meets its contract: a number that is missing tells that the exposure is used.
 -- Assumes nothing.
-use mathlib.Core.Path.{_∙_}
+use mathlib.Core.Path.{sym, _∙_}
+use borrow.Author.Tests.{eq-eqb, ne-eqb}
 use Rattle.bonds.proofs.Ready.{good-pickable}
 use Rattle.bonds.proofs.Rows.{bounded, good-of, row-within}
 use Rattle.book.specs.State.{state}
 use Rattle.rules.specs.Marking.{shortfallIn}
 use Rattle.mark_steps.specs.Stepped.{Stepped}
 use Rattle.mark_steps.proofs.Moving.{none-pledged, some-pledged}
-use Rattle.mark_steps.proofs.Steps.{covered-step, found-pledges, search-step, search-missing-is}
+use Rattle.mark_steps.proofs.Steps.{pick-empty, covered-step, found-pledges, search-step, search-missing-is}
 use Rattle.mark_steps.proofs.Values.{lacking-used}
 use borrow.Author.Needs.{needs}
 use Rattle.mark_steps.proofs.search_missing.Statement.{statement}
@@ -24,35 +25,32 @@ pick-for-requires c κs =
     let m = s .pre .0 in
     (m .long, good-pickable _ _ (good-of m (λ i. c .before .before .slice-known .given i .fits)) (s .pre .1) (lacking-used (state (s .args .book .now)) (s .args .e) (s .pre .2) (c .before .if1 .left)), m .securities, s .pre .3)
 
-is-empty-requires : tie.Need-is-empty-requires
-is-empty-requires c κs = search needs
-
 same-length : tie.Need-same-length
 same-length c = search needs
 
 returns-2 : tie.Need-returns-2
 returns-2 c =
-    let pick = c .before .before .before .before in
+    let pick = c .before .before in
     let s = pick .before .before .before .before in (
       search-step (s .pre .0) (s .pre .1) (λ i. pick .before .before .before .slice-known .given i .fits) (s .pre .2) (pick .before .before .if1 .left) (pick .pick-for .ensures) (s .pre .0 .long)
-          (none-pledged (state (s .args .book .now)) (s .args .e) (pick .pick-for .result .nominals) (c .before .is-empty .ensures) (c .if2 .taken)),
+          (none-pledged (state (s .args .book .now)) (s .args .e) (pick .pick-for .result .nominals) (sym (pick-empty _ _ _ _ (pick .pick-for .ensures))) (eq-eqb (pick .pick-for .result .count) 0 (c .if2 .taken))),
       s .pre .2,
     )
 
 pledge-requires : tie.Need-pledge-requires
 pledge-requires c κs =
-    let pick = c .before .before .before .before .before .before in
+    let pick = c .before .before .before .before .before in
     let s = pick .before .before .before .before in
     (s .pre .0 .long, found-pledges (s .pre .0) (s .pre .1) (λ i. pick .before .before .before .slice-known .given i .fits) (s .pre .2) (pick .before .before .if1 .left) (pick .pick-for .ensures))
 
 -- what was found has come in
 taken-in : (c : tie.After-pledge)
-    → Stepped shortfallIn (c .before .before .before .before .before .before .before .before .before .before .before .args .columns .now) (c .before .before .before .before .before .before .before .before .before .before .before .args .book .now) (c .pledge .last .0) (c .before .before .before .before .before .before .before .before .before .before .before .args .e) 1
+    → Stepped shortfallIn (c .before .before .before .before .before .before .before .before .before .before .args .columns .now) (c .before .before .before .before .before .before .before .before .before .before .args .book .now) (c .pledge .last .0) (c .before .before .before .before .before .before .before .before .before .before .args .e) 1
 taken-in c =
-    let pick = c .before .before .before .before .before .before .before in
+    let pick = c .before .before .before .before .before .before in
     let s = pick .before .before .before .before in
     search-step (s .pre .0) (s .pre .1) (λ i. pick .before .before .before .slice-known .given i .fits) (s .pre .2) (pick .before .before .if1 .left) (pick .pick-for .ensures) (c .pledge .kept .0 ∙ s .pre .0 .long)
-    (some-pledged (state (s .args .book .now)) (s .args .e) (pick .pick-for .result .nominals) (c .before .before .before .before .is-empty .ensures) (c .before .before .before .if2 .left) (c .pledge .ensures))
+    (some-pledged (state (s .args .book .now)) (s .args .e) (pick .pick-for .result .nominals) (sym (pick-empty _ _ _ _ (pick .pick-for .ensures))) (ne-eqb (pick .pick-for .result .count) 0 (c .before .before .before .before .if2 .left)) (c .pledge .ensures))
 
 mul-row-at : tie.Need-mul-row-at
 mul-row-at c = search needs
@@ -64,7 +62,7 @@ worth-of-requires : tie.Need-worth-of-requires
 worth-of-requires c κs =
     let pledge = c .before .before .before .before .before in
     let m = taken-in pledge .book in
-    (bounded m, row-within m (pledge .before .before .before .before .before .before .before .before .before .before .before .pre .1) (c .before .row-at .ensures))
+    (bounded m, row-within m (pledge .before .before .before .before .before .before .before .before .before .before .pre .1) (c .before .row-at .ensures))
 
 get-requires : tie.Need-get-requires
 get-requires c κs = search needs
@@ -78,7 +76,7 @@ same-length-2 c = search needs
 returns-3 : tie.Need-returns-3
 returns-3 c =
     let pledge = c .before .before .before .before .before .before .before .before .before in
-    let pick = pledge .before .before .before .before .before .before .before in
+    let pick = pledge .before .before .before .before .before .before in
     let s = pick .before .before .before .before in
     let t = taken-in pledge in
     (t, search-missing-is (s .pre .0) (s .pre .1) (λ i. pick .before .before .before .slice-known .given i .fits) (s .pre .2) (pick .before .before .if1 .left) (pick .pick-for .ensures) t (c .before .before .before .before .before .row-at .ensures) (c .before .before .before .worth-of .ensures) (c .before .get .ensures) (c .missing-from .ensures))
@@ -89,7 +87,6 @@ search-missing-spec =
     (tie.spec
     returns
     pick-for-requires
-    is-empty-requires
     same-length
     returns-2
     pledge-requires

@@ -2,7 +2,7 @@
 -- Assumes nothing.
 use Rattle.eligibility.proofs.Fresh.{sound-aged}
 use Rattle.book.specs.State.{state}
-use Rattle.facts.proofs.Facts.{sound-facts}
+use Rattle.facts.proofs.Written.{sound-facts}
 use Rattle.mark_steps.proofs.Passable.{first-pass, second-pass}
 use Rattle.marking.proofs.Passing.{passed-fresh}
 use Rattle.marking.proofs.Whole.{flags-in, mark-whole}

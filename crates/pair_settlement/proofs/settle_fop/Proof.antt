@@ -8,24 +8,24 @@ use Rattle.bonds.proofs.Ready.{good-pickable, pick-pledges}
 use Rattle.bonds.specs.Moves.{Pledging}
 use Rattle.book.specs.Layout.{inUse}
 use Rattle.book.specs.State.{state}
-use Rattle.rules.specs.Settlement.{fopAmount}
+use Rattle.settlement_laws.specs.Ways.{fopAmount, fopWay}
 use Rattle.rules.specs.Stock.{eligibleFor}
 use Rattle.settlement_laws.proofs.Finding.{exposure-used}
-use Rattle.settlement_laws.proofs.Settling.{fop-within}
-use Rattle.pair_settlement.proofs.Amounts.{fop-waits, fop-amount, fop-done, fop-none}
-use Rattle.pair_settlement.proofs.Pairs.{pair-fields, fop-pair, rest-le, settleable, exposure-le, pledging-noted}
+use Rattle.settlement_laws.proofs.Settling.{fop-within, fop-below}
+use Rattle.pair_settlement.proofs.Amounts.{fop-waits, fop-amount, fop-done, none-settles}
+use Rattle.pair_settlement.proofs.Pairs.{pair-fields, rest-le, settleable, exposure-le, pledging-noted}
 use borrow.Author.Needs.{needs}
 use Rattle.pair_settlement.proofs.settle_fop.Statement.{statement}
 use Rattle.pair_settlement.proofs.settle_fop.Tie as tie
 
 -- the exposure that the code finds is one of the 64, used, and at most 10^13
 target-below : (c : tie.After-exposure-of-fop) → c .exposure-of-fop .result < 64
-target-below c = let s = c .before .before .before in rw (c .exposure-of-fop .ensures) (fop-pair (s .pre .1) (s .pre .2))
+target-below c = let s = c .before .before .before in rw (c .exposure-of-fop .ensures) (fop-below (s .pre .1) (s .pre .2))
 
 target-used : (c : tie.After-exposure-of-fop) → state (c .before .before .before .args .book .now) inUse (c .exposure-of-fop .result) ≡ 1
 target-used c =
     let s = c .before .before .before in
-    rw (c .exposure-of-fop .ensures) (exposure-used (state (s .args .book .now)) (s .args .i) (fop-pair (s .pre .1) (s .pre .2)))
+    rw (c .exposure-of-fop .ensures) (exposure-used (state (s .args .book .now)) (s .args .i) (fop-below (s .pre .1) (s .pre .2)))
 
 target-le : (c : tie.After-get) → c .get .result ≤ 10000000000000
 target-le c =
@@ -77,7 +77,7 @@ returns c =
     let s = e .before .before .before in
     let st = state (s .args .book .now) in
     let none = fop-waits st (s .args .i) (e .exposure-of-fop .ensures) (exposure .get .ensures) (rest .rest-of .ensures) (c .if1 .taken) in
-    (none, fop-none st (s .args .i) refl none)
+    (none, none-settles fopWay st (s .args .i) refl none)
 
 pick-for-requires : tie.Need-pick-for-requires
 pick-for-requires c κs =
@@ -101,7 +101,7 @@ returns-2 : tie.Need-returns-2
 returns-2 c =
     let s = c .before .before .before .before .before .before .before .before .before .before .before .before .before in
     let x = settles (c .before) in
-    (sym (c .if2 .taken) ∙ x, fop-none (state (s .args .book .now)) (s .args .i) (c .if2 .taken) x)
+    (sym (c .if2 .taken) ∙ x, none-settles fopWay (state (s .args .book .now)) (s .args .i) (c .if2 .taken) x)
 
 add-note-settled : tie.Need-add-note-settled
 add-note-settled c =

@@ -7,8 +7,10 @@ use Rattle.bonds.proofs.Ready.{good-freeable}
 use Rattle.bonds.specs.Moves.{Freeable}
 use Rattle.book.specs.State.{state}
 use Rattle.rules.specs.Settlement.{returnAmount}
-use Rattle.pair_settlement.proofs.Amounts.{return-amount, return-none, return-done}
-use Rattle.pair_settlement.proofs.Pairs.{pair-fields, return-pair, settleable, columns-noted, freeable-noted}
+use Rattle.settlement_laws.specs.Ways.{returnWay}
+use Rattle.settlement_laws.proofs.Settling.{return-names}
+use Rattle.pair_settlement.proofs.Amounts.{return-amount, return-done, none-settles}
+use Rattle.pair_settlement.proofs.Pairs.{pair-fields, settleable, columns-noted, freeable-noted}
 use borrow.Author.Needs.{needs}
 use Rattle.pair_settlement.proofs.settle_return.Statement.{statement}
 use Rattle.pair_settlement.proofs.settle_return.Tie as tie
@@ -28,7 +30,7 @@ get-requires c κs = search needs
 get-requires-2 : tie.Need-get-requires-2
 get-requires-2 c κs =
     let s = c .before .before .before .before in
-    (search needs, omega arith, omega (arith, c .before .get .ensures, return-pair (s .pre .1) (s .pre .2) .exposure-below))
+    (search needs, omega arith, omega (arith, c .before .get .ensures, return-names (s .pre .1) (s .pre .2) .exposure-below))
 
 rest-of-requires : tie.Need-rest-of-requires
 rest-of-requires c κs =
@@ -45,7 +47,7 @@ returns : tie.Need-returns
 returns c =
     let s = c .before .before .before .before .before .before .before .before .before in
     let x = settles (c .before) in
-    (sym (c .if1 .taken) ∙ x, return-none (state (s .args .book .now)) (s .args .i) (c .if1 .taken) x)
+    (sym (c .if1 .taken) ∙ x, none-settles returnWay (state (s .args .book .now)) (s .args .i) (c .if1 .taken) x)
 
 sub-note-settled : tie.Need-sub-note-settled
 sub-note-settled c = search needs
@@ -55,7 +57,7 @@ note-settled-requires c κs =
     let least = c .before .before in
     let object = least .before .before .before .before .before in
     let s = object .before .before .before in
-    let row = return-pair (s .pre .1) (s .pre .2) in
+    let row = return-names (s .pre .1) (s .pre .2) in
     (search needs, settleable (s .pre .1) (s .pre .2) (least .smaller .result) (omega (arith, least .smaller .ensures, least .before .rest-of .ensures)), omega (arith, object .get .ensures, row .exposure-below))
 
 sub-free-down : tie.Need-sub-free-down
@@ -68,7 +70,7 @@ free-down-requires c κs =
     let exposure = least .before .before .before in
     let object = exposure .before .before in
     let s = object .before .before .before in
-    let row = return-pair (s .pre .1) (s .pre .2) in
+    let row = return-names (s .pre .1) (s .pre .2) in
     let before = state (s .args .book .now) in
     let x = least .smaller .result in
     let whole : Freeable before (object .get .result) = rw (object .get .ensures) (good-freeable before _ (s .pre .1) (row .exposure-below) (row .exposure-used)) in

@@ -3,7 +3,7 @@
 use Prim.Native.Nat.{_-_}
 use borrow.Author.Tests.{le-leb, lt-leb}
 use Rattle.valuation.proofs.Inverse.{within-le}
-use Rattle.parcels.specs.Lots.{nominalToKeep}
+use Rattle.parcels.specs.Spare.{nominalToKeep}
 use native.Mathlib.Omega.{arith}
 use borrow.Author.Needs.{needs}
 use Rattle.parcels.proofs.nominal_to_keep.Statement.{statement}

@@ -8,12 +8,13 @@ use Rattle.records.specs.Writing.{areLegal}
 use Rattle.records.proofs.Ranges.{legalAt, ranges-first}
 use Rattle.records.proofs.are_in_ranges.Statement.{statement}
 use Rattle.records.proofs.are_in_ranges.Tie as tie
+use Rattle.record_kinds.specs.Kinds.{places}
 
 abbrev Inv-loop : tie.InvT-loop
-Inv-loop k fields j₀ j = (j ≤ 8) × Rest (legalAt k fields) 8 j (areLegal k fields)
+Inv-loop k fields j₀ j = (j ≤ places) × Rest (legalAt k fields) places j (areLegal k fields)
 
 abbrev μ-loop : tie.MeasureT-loop
-μ-loop k fields j₀ j = 8 - j
+μ-loop k fields j₀ j = places - j
 
 loop-holds : tie.Need-loop-holds Inv-loop μ-loop
 loop-holds c = (omega arith, search ranges-first)

@@ -1,7 +1,7 @@
 -- `records::eight_at` meets its contract.
 -- Assumes nothing.
 use borrow.Author.Needs.{needs}
-use Rattle.records.proofs.Joins.{join-eight}
+use Rattle.laws.proofs.Numbers.{number-halves}
 use Rattle.records.proofs.eight_at.Statement.{statement}
 use Rattle.records.proofs.eight_at.Tie as tie
 
@@ -21,7 +21,7 @@ add-result : tie.Need-add-result
 add-result c = search needs
 
 returns : tie.Need-returns
-returns c = search join-eight
+returns c = search (number-halves 4)
 
 pub eight-at-spec : {M : Type 1} → statement M
 eight-at-spec =

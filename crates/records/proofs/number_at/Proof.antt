@@ -3,8 +3,8 @@
 use mathlib.Core.Path.{_≡_}
 use native.Mathlib.Omega.{arith}
 use borrow.Author.Needs.{needs}
-use Rattle.laws.proofs.Numbers.{number-first}
-use Rattle.records.proofs.Joins.{join-one}
+use Rattle.laws.proofs.Numbers.{number-first, number-one}
+use Rattle.record_kinds.proofs.Fields.{width-eight}
 use Rattle.records.proofs.number_at.Statement.{statement}
 use Rattle.records.proofs.number_at.Tie as tie
 
@@ -21,16 +21,13 @@ four-at-requires : tie.Need-four-at-requires
 four-at-requires c κs = search needs
 
 eight-at-requires : tie.Need-eight-at-requires
-eight-at-requires c κs = search needs
-
-number-by-bytes-requires : tie.Need-number-by-bytes-requires
-number-by-bytes-requires c κs = search needs
+eight-at-requires c κs = let e : c .before .before .args .w ≡ 8 = search width-eight in omega arith
 
 returns : tie.Need-returns
 returns c = let e : c .before .before .args .w ≡ 0 = omega arith in rw e (search number-first)
 
 returns-2 : tie.Need-returns-2
-returns-2 c = let e : c .before .before .before .before .args .w ≡ 1 = omega arith in rw e (search join-one)
+returns-2 c = let e : c .before .before .before .before .args .w ≡ 1 = omega arith in rw e (search number-one)
 
 returns-3 : tie.Need-returns-3
 returns-3 c = let e : c .before .before .before .args .w ≡ 2 = omega arith in rw e (c .two-at .ensures .0)
@@ -39,10 +36,7 @@ returns-4 : tie.Need-returns-4
 returns-4 c = let e : c .before .before .before .args .w ≡ 4 = omega arith in rw e (c .four-at .ensures .0)
 
 returns-5 : tie.Need-returns-5
-returns-5 c = let e : c .before .before .before .args .w ≡ 8 = omega arith in rw e (c .eight-at .ensures)
-
-returns-6 : tie.Need-returns-6
-returns-6 c = search needs
+returns-5 c = let e : c .before .before .before .args .w ≡ 8 = search width-eight in rw e (c .eight-at .ensures)
 
 pub number-at-spec : {M : Type 1} → statement M
 number-at-spec =
@@ -53,10 +47,8 @@ number-at-spec =
     two-at-requires
     four-at-requires
     eight-at-requires
-    number-by-bytes-requires
     returns
     returns-2
     returns-3
     returns-4
-    returns-5
-    returns-6)
+    returns-5)

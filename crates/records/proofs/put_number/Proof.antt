@@ -1,61 +1,66 @@
--- `records::put_number` meets its contract: after i bytes, w - i of them are left to put.
+-- `records::put_number` meets its contract, at each width.
 -- Assumes nothing.
-use Prim.Native.Nat.{_-_, _≤_}
+use mathlib.Core.Path.{_≡_}
 use native.Mathlib.Omega.{arith}
 use borrow.Author.Needs.{needs}
-use Rattle.records.proofs.Puts.{Putting, put-start, put-next, put-end}
+use Rattle.laws.proofs.Patches.{put-none, put-width}
+use Rattle.record_kinds.proofs.Fields.{width-eight}
 use Rattle.records.proofs.put_number.Statement.{statement}
 use Rattle.records.proofs.put_number.Tie as tie
 
-abbrev Inv-loop : tie.InvT-loop
-Inv-loop part₀ at w x rest₀ i₀ part rest i = (i ≤ w) × Putting part₀ at w x part rest (w - i)
+put-one-requires : tie.Need-put-one-requires
+put-one-requires c κs = search needs
 
-abbrev μ-loop : tie.MeasureT-loop
-μ-loop part₀ at w x rest₀ i₀ part rest i = w - i
+put-two-requires : tie.Need-put-two-requires
+put-two-requires c κs = search needs
 
-loop-holds : tie.Need-loop-holds Inv-loop μ-loop
-loop-holds c = (omega arith, search put-start)
+put-four-requires : tie.Need-put-four-requires
+put-four-requires c κs = search needs
 
-add-i : tie.Need-add-i Inv-loop μ-loop
-add-i c = search needs
+put-eight-requires : tie.Need-put-eight-requires
+put-eight-requires c κs = let e : c .before .before .before .args .w ≡ 8 = search width-eight in omega arith
 
-cast-part : tie.Need-cast-part Inv-loop μ-loop
-cast-part c = search needs
+returns : tie.Need-returns
+returns c = search put-none
 
-add-part : tie.Need-add-part Inv-loop μ-loop
-add-part c = search needs
-
-sub-part : tie.Need-sub-part Inv-loop μ-loop
-sub-part c = search needs
-
-slice-write-part : tie.Need-slice-write-part Inv-loop μ-loop
-slice-write-part c = search needs
-
-loop-less : tie.Need-loop-less Inv-loop μ-loop
-loop-less c = search needs
-
-loop-again : tie.Need-loop-again Inv-loop μ-loop
-loop-again c = (omega arith, search put-next)
-
-same-length : tie.Need-same-length Inv-loop μ-loop
+same-length : tie.Need-same-length
 same-length c = search needs
 
-returns : tie.Need-returns Inv-loop μ-loop
-returns c = search put-end
+returns-2 : tie.Need-returns-2
+returns-2 c = search (put-width 1)
+
+same-length-2 : tie.Need-same-length-2
+same-length-2 c = search needs
+
+returns-3 : tie.Need-returns-3
+returns-3 c = search (put-width 2)
+
+same-length-3 : tie.Need-same-length-3
+same-length-3 c = search needs
+
+returns-4 : tie.Need-returns-4
+returns-4 c = search (put-width 4)
+
+same-length-4 : tie.Need-same-length-4
+same-length-4 c = search needs
+
+returns-5 : tie.Need-returns-5
+returns-5 c = search (put-width 8, width-eight)
 
 pub put-number-spec : {M : Type 1} → statement M
 put-number-spec =
     tie.close
     (tie.spec
-    Inv-loop
-    μ-loop
-    loop-holds
-    add-i
-    cast-part
-    add-part
-    sub-part
-    slice-write-part
-    loop-less
-    loop-again
+    put-one-requires
+    put-two-requires
+    put-four-requires
+    put-eight-requires
+    returns
     same-length
-    returns)
+    returns-2
+    same-length-2
+    returns-3
+    same-length-3
+    returns-4
+    same-length-4
+    returns-5)

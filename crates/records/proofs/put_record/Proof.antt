@@ -1,78 +1,29 @@
--- `records::put_record` meets its contract: up to the field j the part is the record.
+-- `records::put_record` meets its contract.
 -- Assumes nothing.
-use mathlib.Core.Path.{_≡_}
-use Prim.Native.Nat.{_-_, _≤_}
-use native.Mathlib.Omega.{arith}
 use borrow.Author.Needs.{needs}
-use lib.ListN.{length, take}
-use Rattle.record_kinds.specs.Kinds.{offsetOf, lengthOf}
-use Rattle.records.specs.Writing.{imageTo}
-use Rattle.record_kinds.proofs.Fields.{start-first, length-some, place-next, place-inside, place-fits}
-use Rattle.records.proofs.Images.{fill-start, fill-next, fill-end}
+use Rattle.records.proofs.Fop.{fop-length, fop-bytes}
 use Rattle.records.proofs.put_record.Statement.{statement}
 use Rattle.records.proofs.put_record.Tie as tie
 
-abbrev Inv-loop : tie.InvT-loop
-Inv-loop part₀ k fields at₀ j₀ part at j = (j ≤ 8) × (at ≡ offsetOf k j) × (length part ≡ lengthOf k) × (take at part ≡ imageTo k fields j)
+put-fop-requires : tie.Need-put-fop-requires
+put-fop-requires c κs = search fop-length
 
-abbrev μ-loop : tie.MeasureT-loop
-μ-loop part₀ k fields at₀ j₀ part at j = 8 - j
+put-fields-requires : tie.Need-put-fields-requires
+put-fields-requires c κs = search needs
 
-cast-part : tie.Need-cast-part Inv-loop μ-loop
-cast-part c = search needs
-
-slice-write-part : tie.Need-slice-write-part Inv-loop μ-loop
-slice-write-part c = search length-some
-
-loop-holds : tie.Need-loop-holds Inv-loop μ-loop
-loop-holds c = (omega arith, search start-first, search needs, search fill-start)
-
-field-of-requires : tie.Need-field-of-requires Inv-loop μ-loop
-field-of-requires c κs = search needs
-
-mul-put-number : tie.Need-mul-put-number Inv-loop μ-loop
-mul-put-number c = search needs
-
-element-copy-out-put-number : tie.Need-element-copy-out-put-number Inv-loop μ-loop
-element-copy-out-put-number c = search needs
-
-put-number-requires : tie.Need-put-number-requires Inv-loop μ-loop
-put-number-requires c κs = search place-inside
-
-add-at : tie.Need-add-at Inv-loop μ-loop
-add-at c = search place-fits
-
-add-j : tie.Need-add-j Inv-loop μ-loop
-add-j c = search needs
-
-loop-less : tie.Need-loop-less Inv-loop μ-loop
-loop-less c = search needs
-
-loop-again : tie.Need-loop-again Inv-loop μ-loop
-loop-again c = (omega arith, search place-next, search needs, search fill-next)
-
-same-length : tie.Need-same-length Inv-loop μ-loop
+same-length : tie.Need-same-length
 same-length c = search needs
 
-returns : tie.Need-returns Inv-loop μ-loop
-returns c = search fill-end
+returns : tie.Need-returns
+returns c = search fop-bytes
+
+same-length-2 : tie.Need-same-length-2
+same-length-2 c = search needs
+
+returns-2 : tie.Need-returns-2
+returns-2 c = search needs
 
 pub put-record-spec : {M : Type 1} → statement M
 put-record-spec =
     tie.close
-    (tie.spec
-    Inv-loop
-    μ-loop
-    cast-part
-    slice-write-part
-    loop-holds
-    field-of-requires
-    mul-put-number
-    element-copy-out-put-number
-    put-number-requires
-    add-at
-    add-j
-    loop-less
-    loop-again
-    same-length
-    returns)
+    (tie.spec put-fop-requires put-fields-requires same-length returns same-length-2 returns-2)

@@ -2,7 +2,7 @@
 -- Assumes nothing.
 use native.Mathlib.Omega.{arith}
 use borrow.Author.Needs.{needs}
-use Rattle.records.proofs.Joins.{join-two}
+use Rattle.laws.proofs.Numbers.{number-one, number-halves}
 use Rattle.records.proofs.two_at.Statement.{statement}
 use Rattle.records.proofs.two_at.Tie as tie
 
@@ -28,7 +28,7 @@ add-result : tie.Need-add-result
 add-result c = search needs
 
 returns : tie.Need-returns
-returns c = (search join-two, omega arith)
+returns c = (search (number-halves 1, number-one), omega arith)
 
 pub two-at-spec : {M : Type 1} → statement M
 two-at-spec =

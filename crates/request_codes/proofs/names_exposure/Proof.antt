@@ -1,6 +1,6 @@
 -- `request_codes::names_exposure` meets its contract.
 -- Assumes nothing.
-use Rattle.request_codes.proofs.Returns.{names-unused, names-other, names-by-taker}
+use Rattle.laws.proofs.Tests.{fails, passes, last}
 use borrow.Author.Needs.{needs}
 use Rattle.request_codes.proofs.names_exposure.Statement.{statement}
 use Rattle.request_codes.proofs.names_exposure.Tie as tie
@@ -12,7 +12,7 @@ get-requires : tie.Need-get-requires
 get-requires c κs = search needs
 
 returns : tie.Need-returns
-returns c = search names-unused
+returns c = search fails
 
 get-requires-2 : tie.Need-get-requires-2
 get-requires-2 c κs = search needs
@@ -21,7 +21,7 @@ element-copy-out-if2 : tie.Need-element-copy-out-if2
 element-copy-out-if2 c = search needs
 
 returns-2 : tie.Need-returns-2
-returns-2 c = search names-other
+returns-2 c = search (passes, fails)
 
 get-requires-3 : tie.Need-get-requires-3
 get-requires-3 c κs = search needs
@@ -30,7 +30,7 @@ element-copy-out-result : tie.Need-element-copy-out-result
 element-copy-out-result c = search needs
 
 returns-3 : tie.Need-returns-3
-returns-3 c = search names-by-taker
+returns-3 c = search (passes, last)
 
 pub names-exposure-spec : {M : Type 1} → statement M
 names-exposure-spec =

@@ -31,17 +31,21 @@ element-copy-out-set-4 c = search needs
 set-requires-5 : tie.Need-set-requires-5
 set-requires-5 c κs = search needs
 
+set-requires-6 : tie.Need-set-requires-6
+set-requires-6 c κs = search needs
+
 same-length : tie.Need-same-length
 same-length c = search needs
 
 returns : tie.Need-returns
 returns c =
     let last = c .before .before in
-    let fourth = last .before .before .before .before .before in
+    let fifth = last .before .before .before .before in
+    let fourth = fifth .before .before .before .before .before in
     let third = fourth .before .before .before .before .before in
     let second = third .before .before .before .before .before in
     let first = second .before .before .before .before .before in
-    rw (last .set5 .ensures, fourth .set4 .ensures, third .set3 .ensures, second .set2 .ensures, first .set .ensures)
+    rw (last .set6 .ensures, fifth .set5 .ensures, fourth .set4 .ensures, third .set3 .ensures, second .set2 .ensures, first .set .ensures)
 
 pub give-exposure-spec : {M : Type 1} → statement M
 give-exposure-spec =
@@ -56,5 +60,6 @@ give-exposure-spec =
     set-requires-4
     element-copy-out-set-4
     set-requires-5
+    set-requires-6
     same-length
     returns)

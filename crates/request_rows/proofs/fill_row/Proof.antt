@@ -1,7 +1,6 @@
 -- `request_rows::fill_row` meets its contract.
 -- Assumes nothing.
-use Rattle.book.specs.State.{state}
-use Rattle.request_rows.proofs.Returns.{row-filled}
+use Rattle.request_rows.specs.Rows.{filledRow}
 use borrow.Author.Needs.{needs}
 use Rattle.request_rows.proofs.fill_row.Statement.{statement}
 use Rattle.request_rows.proofs.fill_row.Tie as tie
@@ -18,26 +17,21 @@ write-parties-requires c κs = search needs
 write-terms-requires : tie.Need-write-terms-requires
 write-terms-requires c κs = search needs
 
-set-requires-3 : tie.Need-set-requires-3
-set-requires-3 c κs = search needs
-
-set-requires-4 : tie.Need-set-requires-4
-set-requires-4 c κs = search needs
+write-marks-requires : tie.Need-write-marks-requires
+write-marks-requires c κs = search needs
 
 same-length : tie.Need-same-length
 same-length c = search needs
 
 returns : tie.Need-returns
+unfolding filledRow
 returns c =
-    let sixth = c .before .before in
-    let fifth = sixth .before .before .before .before in
-    let fourth = fifth .before .before .before .before in
+    let last = c .before .before in
+    let fourth = last .before .before .before .before in
     let third = fourth .before .before .before .before in
     let second = third .before .before .before .before in
     let first = second .before .before .before .before in
-    let s = first .before .before .before in
-    row-filled (state (s .args .book .now)) (s .args .fields .now) (s .args .i) (s .args .kind) (s .args .side) (s .args .partner) (s .args .partial)
-    (first .set .ensures) (second .set2 .ensures) (third .write-parties .ensures) (fourth .write-terms .ensures) (fifth .set3 .ensures) (sixth .set4 .ensures)
+    rw (last .write-marks .ensures, fourth .write-terms .ensures, third .write-parties .ensures, second .set2 .ensures, first .set .ensures)
 
 pub fill-row-spec : {M : Type 1} → statement M
 fill-row-spec =
@@ -47,7 +41,6 @@ fill-row-spec =
     set-requires-2
     write-parties-requires
     write-terms-requires
-    set-requires-3
-    set-requires-4
+    write-marks-requires
     same-length
     returns)

@@ -1,6 +1,6 @@
 -- `request_rows::write_parties` meets its contract.
 -- Assumes nothing.
-use Rattle.request_rows.proofs.Returns.{parties-written}
+use Rattle.request_rows.specs.Rows.{withParties}
 use borrow.Author.Needs.{needs}
 use Rattle.request_rows.proofs.write_parties.Statement.{statement}
 use Rattle.request_rows.proofs.write_parties.Tie as tie
@@ -27,7 +27,12 @@ same-length : tie.Need-same-length
 same-length c = search needs
 
 returns : tie.Need-returns
-returns c = search parties-written
+unfolding withParties
+returns c =
+    let last = c .before .before in
+    let second = last .before .before .before .before .before in
+    let first = second .before .before .before .before .before in
+    rw (last .set3 .ensures, second .set2 .ensures, first .set .ensures)
 
 pub write-parties-spec : {M : Type 1} → statement M
 write-parties-spec =

@@ -1,7 +1,6 @@
 -- `request_rows::write_terms` meets its contract.
 -- Assumes nothing.
-use Rattle.book.specs.State.{state}
-use Rattle.request_rows.proofs.Returns.{terms-written}
+use Rattle.request_rows.specs.Rows.{withTerms}
 use borrow.Author.Needs.{needs}
 use Rattle.request_rows.proofs.write_terms.Statement.{statement}
 use Rattle.request_rows.proofs.write_terms.Tie as tie
@@ -34,14 +33,13 @@ same-length : tie.Need-same-length
 same-length c = search needs
 
 returns : tie.Need-returns
+unfolding withTerms
 returns c =
     let last = c .before .before in
     let third = last .before .before .before .before .before in
     let second = third .before .before .before .before .before in
     let first = second .before .before .before .before .before in
-    let s = first .before .before .before .before in
-    terms-written (state (s .args .book .now)) (s .args .fields .now) (s .args .i) (s .args .kind) (first .set .ensures) (second .set2 .ensures)
-    (third .before .closing-in .ensures) (third .set3 .ensures) (last .before .reference-in .ensures) (last .set4 .ensures)
+    rw (last .set4 .ensures, last .before .reference-in .ensures, third .set3 .ensures, third .before .closing-in .ensures, second .set2 .ensures, first .set .ensures)
 
 pub write-terms-spec : {M : Type 1} → statement M
 write-terms-spec =

@@ -1,6 +1,7 @@
 -- `request_search::accepts_giver` meets its contract.
 -- Assumes nothing.
-use Rattle.request_search.proofs.Returns.{automatic, by-list, by-hand}
+use Rattle.laws.proofs.Tests.{fails, holds, else}
+use Rattle.request_search.proofs.Returns.{by-list}
 use borrow.Author.Needs.{needs}
 use Rattle.request_search.proofs.accepts_giver.Statement.{statement}
 use Rattle.request_search.proofs.accepts_giver.Tie as tie
@@ -9,7 +10,7 @@ get-requires : tie.Need-get-requires
 get-requires c κs = search needs
 
 returns : tie.Need-returns
-returns c = search automatic
+returns c = search holds
 
 get-requires-2 : tie.Need-get-requires-2
 get-requires-2 c κs = search needs
@@ -21,7 +22,7 @@ returns-2 : tie.Need-returns-2
 returns-2 c = search by-list
 
 returns-3 : tie.Need-returns-3
-returns-3 c = search by-hand
+returns-3 c = search (else, fails)
 
 pub accepts-giver-spec : {M : Type 1} → statement M
 accepts-giver-spec =

@@ -4,10 +4,10 @@ use mathlib.Core.Path.{refl, sym, _∙_}
 use Prim.Native.Nat.{_-_, _≤_}
 use native.Mathlib.Omega.{arith}
 use lib.Dec.{eqb}
+use Rattle.laws.proofs.Tests.{Ahead, found, onward, nowhere}
 use Rattle.book.specs.Layout.{numbers}
 use Rattle.book.specs.State.{state}
 use Rattle.rules.specs.Requests.{freeRow}
-use Rattle.request_search.proofs.Searches.{Ahead, found, onward, nowhere}
 use borrow.Author.Needs.{needs}
 use borrow.Author.Tests.{eq-eqb, ne-eqb}
 use Rattle.request_search.proofs.free_row.Statement.{statement}
@@ -29,7 +29,7 @@ returns : tie.Need-returns Inv-loop μ-loop
 returns c =
     let l = c .before .before .before in
     let x = state (l .before .before .args .book .now) numbers (l .loop .i) in
-    found (l .loop .inv .1) (c .before .before .loop-test .taken) (eq-eqb x 0 (sym (c .before .get .ensures) ∙ c .if1 .taken))
+    found (l .loop .inv .1) (c .before .before .loop-test .taken) (sym (eq-eqb x 0 (sym (c .before .get .ensures) ∙ c .if1 .taken))) refl
 
 add-i : tie.Need-add-i Inv-loop μ-loop
 add-i c = search needs
@@ -41,10 +41,10 @@ loop-again : tie.Need-loop-again Inv-loop μ-loop
 loop-again c =
     let l = c .before .before .before in
     let x = state (l .before .before .args .book .now) numbers (l .loop .i) in
-    (omega arith, onward (l .loop .inv .1) (c .before .before .loop-test .taken) (ne-eqb x 0 (λ z. c .if1 .left (c .before .get .ensures ∙ z))))
+    (omega arith, onward (l .loop .inv .1) (c .before .before .loop-test .taken) (sym (ne-eqb x 0 (λ z. c .if1 .left (c .before .get .ensures ∙ z)))) refl)
 
 returns-2 : tie.Need-returns-2 Inv-loop μ-loop
-returns-2 c = nowhere (c .before .loop .inv .1) (c .loop-test .left)
+returns-2 c = search nowhere
 
 pub free-row-spec : {M : Type 1} → statement M
 free-row-spec =

@@ -1,12 +1,11 @@
 -- `request_search::own_request` meets its contract: none below `i` is the one.
 -- Assumes nothing.
-use mathlib.Core.Path.{refl, sym, _∙_}
+use mathlib.Core.Path.{refl}
 use Prim.Native.Nat.{_-_, _≤_}
 use native.Mathlib.Omega.{arith}
+use Rattle.laws.proofs.Tests.{Ahead, found, onward, nowhere}
 use Rattle.book.specs.State.{state}
-use Rattle.rules.specs.Requesting.{ownRequest}
-use Rattle.request_search.specs.Rows.{isOwnRequest}
-use Rattle.request_search.proofs.Searches.{Ahead, found, onward, nowhere}
+use Rattle.rules.specs.Requesting.{isOwnRequest, ownRequest}
 use borrow.Author.Needs.{needs}
 use Rattle.request_search.proofs.own_request.Statement.{statement}
 use Rattle.request_search.proofs.own_request.Tie as tie
@@ -24,9 +23,7 @@ is-own-request-requires : tie.Need-is-own-request-requires Inv-loop μ-loop
 is-own-request-requires c κs = search needs
 
 returns : tie.Need-returns Inv-loop μ-loop
-returns c =
-    let l = c .before .before .before in
-    found (l .loop .inv .1) (c .before .before .loop-test .taken) (sym (c .before .is-own-request .ensures) ∙ c .if1 .taken)
+returns c = search found
 
 add-i : tie.Need-add-i Inv-loop μ-loop
 add-i c = search needs
@@ -35,12 +32,10 @@ loop-less : tie.Need-loop-less Inv-loop μ-loop
 loop-less c = search needs
 
 loop-again : tie.Need-loop-again Inv-loop μ-loop
-loop-again c =
-    let l = c .before .before .before in
-    (omega arith, onward (l .loop .inv .1) (c .before .before .loop-test .taken) (sym (c .before .is-own-request .ensures) ∙ c .if1 .left))
+loop-again c = (omega arith, search onward)
 
 returns-2 : tie.Need-returns-2 Inv-loop μ-loop
-returns-2 c = nowhere (c .before .loop .inv .1) (c .loop-test .left)
+returns-2 c = search nowhere
 
 pub own-request-spec : {M : Type 1} → statement M
 own-request-spec =

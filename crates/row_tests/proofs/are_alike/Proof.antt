@@ -4,7 +4,8 @@ use Prim.Native.Nat.{_+_, _-_, _≤_}
 use native.Mathlib.Omega.{arith}
 use Rattle.laws.proofs.Least.{Rest, loop-fails, loop-passes, loop-ends}
 use Rattle.book.specs.State.{state}
-use Rattle.rules.specs.ByRow.{same, alike}
+use Rattle.rules.specs.ByRow.{same}
+use Rattle.row_tests.specs.Rows.{alike}
 use Rattle.row_tests.proofs.Returns.{loop-starts}
 use borrow.Author.Needs.{needs}
 use Rattle.row_tests.proofs.are_alike.Statement.{statement}

@@ -5,7 +5,7 @@ use native.Mathlib.Omega.{arith}
 use Rattle.laws.proofs.Least.{Rest, loop-fails, loop-passes, loop-ends}
 use lib.Dec.{eqb}
 use Rattle.book.specs.State.{state}
-use Rattle.rules.specs.ByRow.{blank}
+use Rattle.row_tests.specs.Rows.{blank}
 use Rattle.row_tests.proofs.Returns.{loop-starts}
 use borrow.Author.Needs.{needs}
 use Rattle.row_tests.proofs.is_blank.Statement.{statement}

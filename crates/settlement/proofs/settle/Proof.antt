@@ -5,8 +5,8 @@ use native.Mathlib.Omega.{arith}
 use Rattle.eligibility.proofs.Fresh.{sound-aged, fresh-same}
 use Rattle.book.proofs.Images.{state-fits}
 use Rattle.book.specs.State.{state}
-use Rattle.facts.proofs.Facts.{sound-facts}
-use Rattle.facts.proofs.Keeps.{Good}
+use Rattle.facts.proofs.Written.{sound-facts}
+use Rattle.facts.specs.Good.{Good}
 use Rattle.settlement.proofs.Passes.{settled-state, settled-totals}
 use borrow.Author.Needs.{needs}
 use Rattle.settlement.proofs.settle.Statement.{statement}
@@ -21,14 +21,17 @@ fresh-since-requires c κs =
     let s = columns .before .before .before in
     (search needs, sound-aged (state (s .args .book .now)) (sound-facts (state (s .args .book .now)) (s .pre .1)), columns .columns .ensures)
 
+-- the book at the start is good
+good : (c : tie.After-slice-known) → Good (state (c .before .args .book .now))
+good c =
+    let s = c .before in
+    record { facts = sound-facts (state (s .args .book .now)) (s .pre .1); fits = state-fits (s .args .book .now) (s .pre .0) (λ j. c .slice-known .given j .fits) }
+
 settle-pairs-requires : tie.Need-settle-pairs-requires
 settle-pairs-requires c κs =
     let since = c .before .before .before in
     let columns = since .before .before .before in
-    let known = columns .before .before in
-    let s = known .before in
-    let good : Good (state (s .args .book .now)) = record { facts = sound-facts (state (s .args .book .now)) (s .pre .1); fits = state-fits (s .args .book .now) (s .pre .0) (λ j. known .slice-known .given j .fits) } in
-    (search needs, good, columns .columns .ensures, record { fops = omega arith; returns = omega arith; cents = omega arith }, since .fresh-since .ensures)
+    (search needs, good (columns .before .before), columns .columns .ensures, record { fops = omega arith; returns = omega arith; cents = omega arith }, since .fresh-since .ensures)
 
 settle-pairs-requires-2 : tie.Need-settle-pairs-requires-2
 settle-pairs-requires-2 c κs =
@@ -44,7 +47,8 @@ returns : tie.Need-returns
 returns c =
     let fops = c .before .before in
     let returns = fops .before .before .before .before .before .before in
-    (settled-totals (returns .settle-pairs .ensures) (fops .settle-pairs2 .ensures), settled-state (returns .settle-pairs .ensures) (fops .settle-pairs2 .ensures))
+    let g = good (returns .before .before .before .before .before .before .before .before .before) in
+    (settled-totals g (returns .settle-pairs .ensures) (fops .settle-pairs2 .ensures), settled-state g (returns .settle-pairs .ensures) (fops .settle-pairs2 .ensures))
 
 pub settle-spec : {M : Type 1} → statement M
 settle-spec =

@@ -3,10 +3,12 @@
 use Prim.Native.Nat.{_≤_}
 use native.Mathlib.Omega.{arith}
 use Rattle.book.specs.State.{state}
+use Rattle.settlement_laws.specs.Ways.{returnWay, fopWay}
 use Rattle.settlement_laws.proofs.Settling.{fop-within}
 use Rattle.pair_settlement.proofs.Pairs.{rest-le}
-use Rattle.settlement.proofs.Passes.{return-uncounted, return-counted, fop-uncounted, fop-counted, fop-kind}
+use Rattle.settlement.proofs.Passes.{uncounted, counted, fop-kind}
 use borrow.Author.Needs.{needs}
+use borrow.Author.Tests.{eq-eqb, ne-eqb}
 use Rattle.settlement.proofs.settle_pair.Statement.{statement}
 use Rattle.settlement.proofs.settle_pair.Tie as tie
 
@@ -31,7 +33,7 @@ returns : tie.Need-returns
 returns c =
     let done = c .before .before .before in
     let s = done .before .before .before .before in
-    (return-uncounted (state (s .args .book .now)) (s .args .t) (s .args .i) (done .before .before .if1 .taken) (done .settle-return .ensures .0) (done .settle-return .ensures .1) (c .if2 .taken), record { fops = omega arith; returns = omega arith; cents = omega arith })
+    (rw (eq-eqb (s .args .kind) 7 (done .before .before .if1 .taken)) (uncounted returnWay (state (s .args .book .now)) (s .args .t) (s .args .i) (done .settle-return .ensures .0) (done .settle-return .ensures .1) (c .if2 .taken)), record { fops = omega arith; returns = omega arith; cents = omega arith })
 
 add-t13 : tie.Need-add-t13
 add-t13 c = search needs
@@ -47,7 +49,7 @@ returns-2 c =
     let done = c .before .before .before .before .before in
     let s = done .before .before .before .before in
     let small = return-small done in
-    (return-counted (state (s .args .book .now)) (s .args .t) (s .args .i) (done .before .before .if1 .taken) (done .settle-return .ensures .0) (done .settle-return .ensures .1) (c .before .before .if2 .left), record { fops = omega arith; returns = omega arith; cents = omega arith })
+    (rw (eq-eqb (s .args .kind) 7 (done .before .before .if1 .taken)) (counted returnWay (state (s .args .book .now)) (s .args .t) (s .args .i) (done .settle-return .ensures .0) (done .settle-return .ensures .1) (c .before .before .if2 .left)), record { fops = omega arith; returns = omega arith; cents = omega arith })
 
 settle-fop-requires : tie.Need-settle-fop-requires
 settle-fop-requires c κs =
@@ -61,7 +63,7 @@ returns-3 : tie.Need-returns-3
 returns-3 c =
     let done = c .before .before .before in
     let s = done .before .before .before .before in
-    (fop-uncounted (state (s .args .book .now)) (s .args .t) (s .args .i) (done .before .before .if1 .left) (done .settle-fop .ensures .0) (done .settle-fop .ensures .1) (c .if3 .taken), record { fops = omega arith; returns = omega arith; cents = omega arith })
+    (rw (ne-eqb (s .args .kind) 7 (done .before .before .if1 .left)) (uncounted fopWay (state (s .args .book .now)) (s .args .t) (s .args .i) (done .settle-fop .ensures .0) (done .settle-fop .ensures .1) (c .if3 .taken)), record { fops = omega arith; returns = omega arith; cents = omega arith })
 
 add-t17 : tie.Need-add-t17
 add-t17 c = search needs
@@ -77,7 +79,7 @@ returns-4 c =
     let done = c .before .before .before .before .before in
     let s = done .before .before .before .before in
     let small = fop-small done in
-    (fop-counted (state (s .args .book .now)) (s .args .t) (s .args .i) (done .before .before .if1 .left) (done .settle-fop .ensures .0) (done .settle-fop .ensures .1) (c .before .before .if3 .left), record { fops = omega arith; returns = omega arith; cents = omega arith })
+    (rw (ne-eqb (s .args .kind) 7 (done .before .before .if1 .left)) (counted fopWay (state (s .args .book .now)) (s .args .t) (s .args .i) (done .settle-fop .ensures .0) (done .settle-fop .ensures .1) (c .before .before .if3 .left)), record { fops = omega arith; returns = omega arith; cents = omega arith })
 
 pub settle-pair-spec : {M : Type 1} → statement M
 settle-pair-spec =

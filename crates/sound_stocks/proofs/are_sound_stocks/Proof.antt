@@ -7,7 +7,7 @@ use native.Mathlib.Omega.{arith}
 use Rattle.laws.specs.Search.{all}
 use Rattle.book.specs.State.{state}
 use Rattle.rules.specs.ByRow.{soundExposure}
-use Rattle.facts.proofs.Facts.{below}
+use Rattle.facts.proofs.Truth.{below}
 use Rattle.sound_stocks.specs.Stocks.{Held}
 use Rattle.sound_stocks.proofs.Stocks.{accounts-fail, held-starts, held-ends, judged-ends, judged-passes}
 use borrow.Author.Needs.{needs}

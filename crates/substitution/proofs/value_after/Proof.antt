@@ -2,7 +2,8 @@
 -- Assumes nothing.
 use Rattle.substitution.proofs.Accepting.{book-of, sum-within, value-found, worth-le}
 use Rattle.bonds.proofs.Rows.{bounded}
-use Rattle.securities.specs.Position.{Within, nominalsOf}
+use Rattle.securities.specs.Position.{nominalsOf}
+use Rattle.securities.specs.Bounds.{Within}
 use borrow.Author.Needs.{needs}
 use Rattle.substitution.proofs.value_after.Statement.{statement}
 use Rattle.substitution.proofs.value_after.Tie as tie
