@@ -1,7 +1,6 @@
 // Kind 10: the mark, three passes over the exposures.
 ghost use mathlib.Core.Path.{_≡_};
 ghost use mathlib.Core.Bool.{true, cond};
-ghost use Prim.Native.Nat.{_<_};
 ghost use lib.Dec.{eqb};
 ghost use lib.ListN.{length};
 ghost use Rattle.laws.specs.Filled.{filled};
@@ -10,12 +9,10 @@ ghost use Rattle.book.specs.Layout.{bookLength};
 ghost use Rattle.book.specs.State.{state};
 ghost use Rattle.eligibility.specs.Fresh.{FreshBaskets};
 ghost use Rattle.bonds.specs.Moves.{SoundBook};
-ghost use Rattle.mark_steps.specs.Stepped.{Stepped};
 ghost use Rattle.rules.specs.Marking.{onExposures, moved, ineligibleBack, excessBack, shortfallIn, missingOf, marked};
 ghost use Rattle.rules.specs.Sound.{sound};
 ghost use Rattle.totals.specs.Totals.{totalsOf};
 ghost use Rattle.marking.specs.Flags.{Flags, flagsOf, countWith, countOf};
-use mark_steps::Passed;
 use totals::Totals;
 
 // What the second pass leaves: how many exposures gave back, in the first or in this one, and what is missing of each.
@@ -51,15 +48,7 @@ fn either(first: u64, second: u64) -> u64
     if first == 0 { second } else { first }
 }
 
-// Second pass, one exposure: it is freed and no more; what is missing is searched for when all are freed.
-fn free_one(book: &mut [u8], columns: &[u64; 256], e: usize) -> Passed
-    requires { ⌜ SoundBook (now book) (now columns) × (e < 64) ⌝ }
-    ensures { λ r. ⌜ Stepped excessBack (now (columns .entry)) (now (book .entry)) (now (book .exit)) e (r .moved) × (r .missing ≡ missingOf (state (now (book .exit))) e) ⌝ }
-{
-    mark_steps::free_excess(book, columns, e)
-}
-
-// Second pass.
+// Second pass: each exposure is freed and no more; what is missing is searched for when all are freed.
 fn free_all(book: &mut [u8], columns: &[u64; 256], gave: &[u64; 64]) -> Freed
     requires { ⌜ SoundBook (now book) (now columns) × Flags (now gave) ⌝ }
     ensures { λ r. ⌜ SoundBook (now (book .exit)) (now (columns .entry)) × (state (now (book .exit)) ≡ onExposures excessBack 64 (state (now (book .entry)))) × (r .count ≡ countWith (now (gave .entry)) (moved (state (now (book .entry))) (state (now (book .exit))))) × (r .missing ≡ filled (missingOf (state (now (book .exit)))) 64 64) ⌝ }
@@ -68,7 +57,7 @@ fn free_all(book: &mut [u8], columns: &[u64; 256], gave: &[u64; 64]) -> Freed
     let mut missing = [0u64; 64];
     let mut e: usize = 0;
     while e < 64 {
-        let step = free_one(book, columns, e);
+        let step = mark_steps::free_excess(book, columns, e);
         count += either(gave[e], step.moved);
         missing[e] = step.missing;
         e += 1;

@@ -39,8 +39,8 @@ abbrev μ-loop : tie.MeasureT-loop
 loop-holds : tie.Need-loop-holds Inv-loop μ-loop
 loop-holds c = (omega arith, on-start (c .before .pre .0), sum-none _, omega arith, filled-first _ 64)
 
-free-one-requires : tie.Need-free-one-requires Inv-loop μ-loop
-free-one-requires c κs = (c .before .before .loop .inv .1 .whole, omega arith)
+free-excess-requires : tie.Need-free-excess-requires Inv-loop μ-loop
+free-excess-requires c κs = (c .before .before .loop .inv .1 .whole, omega arith)
 
 mul-either : tie.Need-mul-either Inv-loop μ-loop
 mul-either c = search needs
@@ -57,7 +57,7 @@ flag-of : (c : tie.After-either Inv-loop μ-loop)
 flag-of c =
     let l = c .before .before .before .before .before .before .before in
     let s = l .before .before in
-    or-flag (getD (s .args .gave .now) (l .loop .e) 0) (gives (state (s .args .book .now)) (l .loop .e)) (c .either .ensures) (on-flag (l .loop .inv .1) second-pass (omega arith) (c .before .before .before .before .free-one .ensures .0))
+    or-flag (getD (s .args .gave .now) (l .loop .e) 0) (gives (state (s .args .book .now)) (l .loop .e)) (c .either .ensures) (on-flag (l .loop .inv .1) second-pass (omega arith) (c .before .before .before .before .free-excess .ensures .0))
 
 one-at-most : (c : tie.After-either Inv-loop μ-loop) → c .either .result ≤ 1
 one-at-most c =
@@ -83,7 +83,7 @@ loop-less c = search needs
 loop-again : tie.Need-loop-again Inv-loop μ-loop
 loop-again c =
     let l = c .before .before .before .before .before .before .before in
-    let t = c .before .before .before .before .free-one .ensures in (
+    let t = c .before .before .before .before .free-excess .ensures in (
       omega arith,
       on-step (l .loop .inv .1) (t .0),
       sum-more _ (l .loop .e) (l .loop .inv .2) (flag-of c),
@@ -108,7 +108,7 @@ free-all-spec =
     Inv-loop
     μ-loop
     loop-holds
-    free-one-requires
+    free-excess-requires
     mul-either
     element-copy-out-either
     either-requires
