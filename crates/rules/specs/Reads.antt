@@ -1,5 +1,5 @@
 -- The reads: "an account's or position's nominal of one security, an exposure, a request by its number, or a basket".
--- "A read refuses with 1, 2, 4 or 5 (a row not in use counts as 5)." A read changes no byte.
+-- "A read refuses with 1, 2, 4 or 5 (a row not in use counts as 5)." That a read changes no byte is the ledger's `bookNext`.
 -- Assumes nothing.
 use mathlib.Core.Path.{_≡_}
 use mathlib.Core.Bool.{Bool, true, not, _&&_, _||_, cond}

@@ -74,7 +74,7 @@ withEqual s k r j =
 unfoldable pub waiting : State → ℕ → List ℕ → State
 waiting s k r = put (withRow s k r (freeRow s) (s nextNumber 0) (sideIn r) 0 0) nextNumber 0 (s nextNumber 0 + 1)
 
--- 6, 7: the rows
+-- kinds 6, 7: the rows
 abbrev pub rowsEntered : State → ℕ → List ℕ → State
 rowsEntered s k r =
     cond (takerFollows s r) (withTaker s k r) (cond (ltb (earliestEqual s k r) 256) (withEqual s k r (earliestEqual s k r)) (waiting s k r))
@@ -83,7 +83,7 @@ rowsEntered s k r =
 abbrev pub pairedWith : State → ℕ → List ℕ → ℕ
 pairedWith s k r = cond (takerFollows s r) (s nextNumber 0 + 1) (cond (ltb (earliestEqual s k r) 256) (s numbers (earliestEqual s k r)) 0)
 
--- 6, 7: "each request gets the next number from 1 (A)"
+-- kinds 6, 7: "each request gets the next number from 1 (A)"
 unfoldable pub entered : State → ℕ → List ℕ → Step
 entered s k r =
     let e = freeExposure s in
@@ -95,7 +95,7 @@ entered s k r =
       events = cond (needsExposure s k r) (given e ∷ []) [];
     }
 
--- 12: "such live request of that owner", or one that has settled whole: "a whole settled row gives its owner 13 until day change"
+-- code 12: "such live request of that owner", or one that has settled whole: "a whole settled row gives its owner 13 until day change"
 abbrev pub isOwnRequest : State → ℕ → ℕ → ℕ → Bool
 isOwnRequest s p n i = isUsed s i && (eqb (s numbers i) n && ((isLive s i || isWhole s i) && isOwner s i p))
 
@@ -107,7 +107,7 @@ ownRequest s p n = least (isOwnRequest s p n) 256 0
 abbrev pub pairEnds : State → ℕ → Bool
 pairEnds s i = eqb (s cancels (partnerOf s i)) 1 || (eqb (s sides i) giverSide && acceptsGiver s (s takers i) (s givers i))
 
--- 8: "an unpaired request ends .. A paired one ends, with its partner, when .."; else the owner's cancel is noted
+-- kind 8: "an unpaired request ends .. A paired one ends, with its partner, when .."; else the owner's cancel is noted
 unfoldable pub cancelled : State → List ℕ → Step
 cancelled s r =
     let i = ownRequest s (cancelOwner r) (cancelNumber r) in

@@ -23,7 +23,8 @@ daysOpen s =
     && ofEach 256 (isUsed s) (λ i. openDay (s settlements i) && openOrNone (s closings i))
     && ofEach 64 (isInUse s) (λ e. openOrNone (s exposureClosings e))
 
--- "tolerance and all stored fields lie in the ranges below" (a list, a map and a reference have every value of their bytes): the price's
+-- "tolerance and all stored fields lie in the ranges below" (a list and a reference have every value of their bytes, and so has a map
+-- but 0, which is a basket not set up; nominals have the last clause): the price's
 abbrev pub priceInRange : State → ℕ → Bool
 priceInRange s i = between 1 greatestLot (s lots i) && between 1 greatestPrice (s prices i) && leb (s haircuts i) greatestHaircut
 
@@ -77,10 +78,11 @@ pairsAgree s = ofEach 256 (isPaired s) (λ i. pairAgrees s i (partnerOf s i))
 abbrev pub settledWithin : State → Bool
 settledWithin s = all (λ i. leb (s settledAmounts i) (s amounts i) && (isPaired s i || eqb (s settledAmounts i) 0)) 256 0
 
--- "every giver, taker and basket named is set up, giver and taker differ"
+-- two parties that are set up and differ
 abbrev pub partiesSetUp : State → ℕ → ℕ → Bool
 partiesSetUp s giver taker = participantSetUp s giver && participantSetUp s taker && not (eqb giver taker)
 
+-- "every giver, taker and basket named is set up, giver and taker differ" (a participant's list names none: any bits)
 abbrev pub namedSetUp : State → Bool
 namedSetUp s =
     ofEach 256 (isUsed s) (λ i. partiesSetUp s (s givers i) (s takers i))
@@ -103,13 +105,14 @@ exposuresWithin s = all (λ e. leb (s exposureAmounts e) greatestExposure) 64 0
 abbrev pub keysDistinct : State → Bool
 keysDistinct s = ofEach 64 (isInUse s) (λ e. all (λ d. not (isInUse s d && rowsAlike s keyTables e d)) e 0)
 
--- "positions stand only in used exposures and in whole lots of securities set up"
+-- the nominal of a security in an exposure's position; one that may stand there
 abbrev pub positionIn : State → ℕ → ℕ → ℕ
 positionIn s e i = s positions (64 * e + i)
 
 abbrev pub positionStands : State → ℕ → ℕ → Bool
 positionStands s e i = isInUse s e && securitySetUp s i && eqb (positionIn s e i % s lots i) 0
 
+-- "positions stand only in used exposures and in whole lots of securities set up"
 abbrev pub positionsStand : State → Bool
 positionsStand s = all (λ e. ofEach 64 (λ i. not (eqb (positionIn s e i) 0)) (positionStands s e)) 64 0
 

@@ -19,7 +19,7 @@ blankUnless s n used tables = all (λ i. used i || rowBlank s tables i) n 0
 abbrev pub changeWaits : State → ℕ → Bool
 changeWaits s p = not (eqb (s waitingModes p) 0)
 
--- rows that are not used, and spare rows, hold nothing
+-- rows that are not used, and spare rows, hold nothing; of accounts the paper asks the 500,000,000 only
 abbrev pub unusedBlank : State → Bool
 unusedBlank s =
     blankUnless s 64 (securitySetUp s) securityTables
