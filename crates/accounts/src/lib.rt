@@ -1,5 +1,7 @@
 // Kinds 4 and 5: deposit, withdrawal. For each a function that finds the code of a record in its ranges, and one that takes the
 // step of an accepted record.
+#![tactic(auto)]
+
 ghost use Rattle.std.specs.Prelude.{◌≡◌, true, ◌<◌, ◌≤◌, length};
 ghost use Rattle.book.specs.Layout.{book_length};
 ghost use Rattle.book.specs.State.{state};

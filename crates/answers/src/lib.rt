@@ -1,4 +1,6 @@
 // What a stand-alone function answers to its host: a code of document 01 and one number.
+#![tactic(auto)]
+
 ghost use Rattle.std.specs.Prelude.{◌≡◌};
 ghost use Rattle.answers.specs.Answers.{accepted, refused};
 
@@ -11,7 +13,7 @@ pub const BAD_DAY: u64 = 7;
 
 // code 0 and the number asked for, or the code of a refusal and 0.
 #[repr(C)]
-#[derive(Drop)]
+#[derive(Clone, Copy)]
 pub struct CodedValue {
     pub code: u64,
     pub value: u64,

@@ -1,4 +1,6 @@
 // Baskets: which securities are eligible for one, and the report of one.
+#![tactic(auto)]
+
 ghost use Rattle.std.specs.Prelude.{◌≡◌, ◌<◌, ◌≤◌};
 ghost use Rattle.laws.specs.Bits.{has_bit};
 ghost use Rattle.laws.specs.Search.{least, count};
@@ -11,7 +13,7 @@ use calendar::LAST_DAY;
 use securities::Security;
 
 // A basket: its map of securities (bit n is security n) and how old a price may be, in open days (document 01: the greatest age).
-#[derive(Drop)]
+#[derive(Clone, Copy)]
 pub struct Basket {
     pub map: u64,
     pub oldest: u64,
@@ -26,7 +28,7 @@ pub fn has_bit(map: u64, i: u64) -> bool
 }
 
 // Which securities are eligible for a basket on a day: those in its map whose price was quoted on this day or later.
-#[derive(Drop)]
+#[derive(Clone, Copy)]
 pub struct Eligibility {
     pub map: u64,
     pub since: u64,
@@ -105,7 +107,7 @@ pub fn eligibility_on(b: Basket, today: u64, columns: &[u64; 256]) -> Eligibilit
 
 // A basket's report: code 0, how many securities it holds and the lowest of them; or 4 and zeros.
 #[repr(C)]
-#[derive(Drop)]
+#[derive(Clone, Copy)]
 pub struct Report {
     pub code: u64,
     pub count: u64,
@@ -113,8 +115,7 @@ pub struct Report {
 }
 
 // The report of a map. Code 4 for a map of 0, which no basket has.
-#[unsafe(no_mangle)]
-pub extern "C" fn baskets_report(map: u64) -> Report
+pub fn baskets_report(map: u64) -> Report
     ensures { result ≡ report map }
 {
     if map == 0 {

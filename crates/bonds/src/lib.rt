@@ -1,4 +1,6 @@
 // Bonds on the book: moves between a giver's account and an exposure's position, and Pick and Free for an exposure.
+#![tactic(auto)]
+
 ghost use Rattle.std.specs.Prelude.{◌≡◌, ◌-◌, length};
 ghost use Rattle.book.specs.Layout.{book_length};
 ghost use Rattle.book.specs.State.{state, columns_of};

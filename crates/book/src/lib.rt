@@ -1,5 +1,7 @@
 // The book's bytes as numbered tables: one function reads a number, one writes it, whichever table it stands in.
 // With a table named by its constant the compiler makes one load or store of a call.
+#![tactic(auto)]
+
 ghost use Rattle.std.specs.Prelude.{◌≡◌, ◌++◌, ◌+◌, ◌*◌, ◌^◌, ◌≤◌, ◌<◌, length, take, drop};
 ghost use Rattle.laws.specs.Numbers.{number_at, bytes_of};
 ghost use Rattle.book.specs.Layout.{rows_of, width_of, base_of, book_length, table_count};

@@ -1,5 +1,7 @@
 // The TARGET calendar. Day 0 is Tuesday 1 January 2002, and the last day is 146096, Monday 31 December 2401.
 // It needs no book, and other desks link it by itself.
+#![tactic(auto)]
+
 ghost use Rattle.std.specs.Prelude.{◌≡◌, ◌+◌, ◌≤◌, ◌<◌};
 ghost use Rattle.calendar.specs.Answers.{is_open_answer, next_open_day_answer, age_answer};
 ghost use Rattle.calendar.specs.Gregorian.{start_of, year_of};
@@ -34,7 +36,7 @@ fn year_of(day: u64) -> u64
 }
 
 // A day by its year, counted from 2002, with the leap days of that year and the day's number in it, from 1.
-#[derive(Drop)]
+#[derive(Clone, Copy)]
 pub struct YearDay {
     pub year: u64,
     pub leap: u64,
@@ -165,8 +167,7 @@ pub fn fresh_days(from: u64, today: u64, most: usize) -> [u64; 256]
 }
 
 // Is a day open (1) or closed (0)? Code 7 above 146096.
-#[unsafe(no_mangle)]
-pub extern "C" fn calendar_is_open(day: u64) -> CodedValue
+pub fn calendar_is_open(day: u64) -> CodedValue
     ensures { result ≡ is_open_answer day }
 {
     if LAST_DAY < day {
@@ -180,8 +181,7 @@ pub extern "C" fn calendar_is_open(day: u64) -> CodedValue
 }
 
 // The first open day after an open day. Code 7 for a day that is not open, and where there is no next one.
-#[unsafe(no_mangle)]
-pub extern "C" fn calendar_next_open_day(day: u64) -> CodedValue
+pub fn calendar_next_open_day(day: u64) -> CodedValue
     ensures { result ≡ next_open_day_answer day }
 {
     if !is_open(day) {
@@ -195,8 +195,7 @@ pub extern "C" fn calendar_next_open_day(day: u64) -> CodedValue
 }
 
 // The age of a price in open days. Code 7 where a day is not open, or the quote is after today.
-#[unsafe(no_mangle)]
-pub extern "C" fn calendar_price_age(quote: u64, today: u64) -> CodedValue
+pub fn calendar_price_age(quote: u64, today: u64) -> CodedValue
     ensures { result ≡ age_answer quote today }
 {
     if !is_open(quote) {

@@ -1,4 +1,6 @@
 // What a call and a read begin with: a book of the right length that is sound.
+#![tactic(auto)]
+
 ghost use Rattle.std.specs.Prelude.{◌≡◌};
 ghost use Rattle.rules.specs.Call.{opens};
 ghost use Rattle.damage.specs.Damage.{book_damage, damage};

@@ -1,4 +1,6 @@
 // Kind 12, next day: its code, the profiles that waited, and the whole step.
+#![tactic(auto)]
+
 ghost use Rattle.std.specs.Prelude.{◌≡◌, true, ◌<◌, length};
 ghost use Rattle.calendar.specs.Target.{next_open_day};
 ghost use Rattle.book.specs.Layout.{book_length, table_count, rows_of, width_of, today};

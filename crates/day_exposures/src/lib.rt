@@ -1,5 +1,7 @@
 // Kind 12, next day: exposures whose closing date is reached are closed, and idle ones freed.
 // An exposure is tested and changed in one pass: no test reads what the steps on those before it have changed.
+#![tactic(auto)]
+
 ghost use Rattle.std.specs.Prelude.{◌≡◌, true, ◌+◌, ◌*◌, ◌<◌, length, replicate};
 ghost use Rattle.laws.specs.Search.{all};
 ghost use Rattle.laws.specs.Sum.{sum};

@@ -1,5 +1,7 @@
 // Kind 12, next day: the request rows that its passes drop.
 // A row is tested and dropped in one walk: no test reads what the rows before it have lost.
+#![tactic(auto)]
+
 ghost use Rattle.std.specs.Prelude.{◌≡◌, true, cond, ◌<◌, length};
 ghost use Rattle.laws.specs.Search.{count};
 ghost use Rattle.book.specs.Layout.{book_length};
@@ -15,7 +17,7 @@ use book::layout::{
 };
 
 // The passes that drop rows.
-#[derive(Drop)]
+#[derive(Clone, Copy)]
 pub enum Pass {
     Done,
     ClosedFops,

@@ -4,6 +4,8 @@
 // the last one left, and its lines stand at the front of the text (`serve_some`); so the lines of all pieces and the last line are the
 // text of the whole input (`serve`, `finish`). No contract can say what `read` gives, or that a text is handed to `write` and written: that
 // is tested, on stdin and stdout beside src/ and by tests/tests/lines.rs.
+#![tactic(auto)]
+
 ghost use Rattle.std.specs.Prelude.{◌≡◌, false, ◌+◌, ◌-◌, ◌≤◌, ◌<◌, length, take, drop};
 ghost use Rattle.line_text.specs.Buffer.{with_text};
 ghost use Rattle.lines.specs.Program.{first_record, zero_book};
@@ -15,7 +17,7 @@ use libc::{STDERR_FILENO, STDIN_FILENO, STDOUT_FILENO};
 const READS: u64 = 281474976710655;
 
 // What a read gave: how many bytes, none at the input's end, or nothing where it failed.
-#[derive(Drop)]
+#[derive(Clone, Copy)]
 struct Got {
     count: usize,
     failed: bool,
@@ -23,7 +25,7 @@ struct Got {
 
 // After a piece: how many reads are left, the place of the next line, how many bytes the piece has and how many of them are of records
 // served, the bytes of their lines, whether these are written, and what the read gave.
-#[derive(Drop)]
+#[derive(Clone, Copy)]
 struct Session {
     reads: u64,
     place: u64,

@@ -1,4 +1,6 @@
 // The live pairs of a kind that are due, by their later requests: collected once as keys, and then the next by settlement date and the order in which they paired.
+#![tactic(auto)]
+
 ghost use Rattle.std.specs.Prelude.{◌≡◌, ◌+◌, ◌<◌, ◌≤◌, length, take};
 ghost use Rattle.book.specs.Layout.{book_length};
 ghost use Rattle.book.specs.State.{state};

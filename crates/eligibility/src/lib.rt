@@ -1,4 +1,6 @@
 // Which securities are eligible for an exposure's basket today, read from the book.
+#![tactic(auto)]
+
 ghost use Rattle.std.specs.Prelude.{◌≡◌, ◌<◌, ◌≤◌, length};
 ghost use Rattle.baskets.specs.Fresh.{EligibilityFor};
 ghost use Rattle.book.specs.Layout.{book_length, today, exposure_baskets};

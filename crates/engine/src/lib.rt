@@ -1,4 +1,6 @@
 // The exported call: a book and a record, both lent as bytes, and a lent answer of four numbers (code, A, B, M).
+#![tactic(auto)]
+
 ghost use Rattle.std.specs.Prelude.{◌≡◌, ◌<◌};
 ghost use Rattle.book.specs.State.{state};
 ghost use Rattle.rules.specs.Call.{step_of, call_answer, call_book};
@@ -71,8 +73,7 @@ fn take_step(book: &mut [u8], kind: u64, fields: &Fields) -> Totals
 }
 
 // Applies a record to a book. A refused call has its code in the answer and 0 in its other numbers, and leaves the book as it was.
-#[unsafe(no_mangle)]
-pub extern "C" fn engine_call(book: &mut [u8], bytes: &[u8], answer: &mut [u64; 4])
+pub fn engine_call(book: &mut [u8], bytes: &[u8], answer: &mut [u64; 4])
     ensures book_after { book.new ≡ call_book book.old bytes.now }
     ensures answer_after { answer.new ≡ numbers_of (call_answer book.old bytes.now) }
 {

@@ -30,6 +30,7 @@ sorted_by (x ∷ xs) h r = (λ y i. h x y (inl refl) (inr i) (r.0 y i), sorted_b
 
 -- one list after the other
 in_left : (x : ℕ) (xs ys : List ℕ) → In x xs → In x (xs ++ ys)
+in_left x [] ys i = absurd i
 in_left x (z ∷ xs) ys (inl e) = inl e
 in_left x (z ∷ xs) ys (inr i) = inr (in_left x xs ys i)
 

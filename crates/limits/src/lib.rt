@@ -1,4 +1,5 @@
 // Document 01's limits, each said once; specs/Limits.antt has the same.
+#![tactic(auto)]
 
 pub const GREATEST_TOLERANCE: u64 = 100000000;
 

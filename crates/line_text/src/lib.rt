@@ -1,4 +1,6 @@
 // The text of a line (document 01, "The program's lines"), put into a lent buffer byte by byte: six numbers in base ten.
+#![tactic(auto)]
+
 ghost use Rattle.std.specs.Prelude.{◌≡◌, ◌+◌, ◌≤◌, length, take};
 ghost use Rattle.line_text.specs.Text.{word, line_of, last_line};
 ghost use Rattle.line_text.specs.Buffer.{answer_of, with_text};

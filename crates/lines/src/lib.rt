@@ -1,5 +1,7 @@
 // The program's lines (document 01), with nothing of standard input or output: the input cut into records, each handed to the
 // engine with one book, and the text of a line for each.
+#![tactic(auto)]
+
 ghost use Rattle.std.specs.Prelude.{◌≡◌, ◌+◌, ◌*◌, ◌≤◌, ◌<◌, pos, length, get_or, take, drop};
 ghost use Rattle.std.specs.Int.Signed.{lt_z};
 ghost use Rattle.rules.specs.Call.{call_answer, call_book};
@@ -10,7 +12,7 @@ ghost use Rattle.line_text.specs.Buffer.{with_text};
 
 // How far a piece of the input is served: the place of the next line, the bytes of the piece whose calls are made, and the bytes
 // of lines that are put.
-#[derive(Drop)]
+#[derive(Clone, Copy)]
 pub struct Progress {
     pub place: u64,
     pub taken: usize,

@@ -1,4 +1,6 @@
 // One exposure's part in each pass of a mark: its ineligible bonds go back, then those it does not need; what is missing is searched for.
+#![tactic(auto)]
+
 ghost use Rattle.std.specs.Prelude.{◌≡◌, ◌<◌, eqb, length};
 ghost use Rattle.laws.specs.Filled.{filled};
 ghost use Rattle.laws.specs.Search.{all};
@@ -16,7 +18,7 @@ use baskets::Eligibility;
 use book::layout::{EXPOSURE_AMOUNTS, IN_USE, POSITIONS};
 
 // What a step leaves of an exposure: 1 where its position is another, and what its value is short of its amount.
-#[derive(Drop)]
+#[derive(Clone, Copy)]
 pub struct Passed {
     pub moved: u64,
     pub missing: u64,

@@ -1,4 +1,6 @@
 // Kind 10: the mark, three passes over the exposures.
+#![tactic(auto)]
+
 ghost use Rattle.std.specs.Prelude.{◌≡◌, true, cond, eqb, length};
 ghost use Rattle.laws.specs.Filled.{filled};
 ghost use Rattle.laws.specs.Sum.{sum};
@@ -14,14 +16,14 @@ ghost use Rattle.marking.specs.Flags.{Flags, flags_of, count_with, count_of};
 use totals::Totals;
 
 // What the second pass leaves: how many exposures gave back, in the first or in this one, and what is missing of each.
-#[derive(Drop)]
+#[derive(Clone, Copy)]
 struct Freed {
     count: u64,
     missing: [u64; 64],
 }
 
 // What the third pass leaves: how many exposures took in, and what is missing of all.
-#[derive(Drop)]
+#[derive(Clone, Copy)]
 struct Searched {
     count: u64,
     missing: u64,

@@ -1,4 +1,6 @@
 // Days known to be open: a few at hand, so that most days of a book need no calendar.
+#![tactic(auto)]
+
 ghost use Rattle.std.specs.Prelude.{true, ◌≡◌, ◌<◌};
 ghost use Rattle.calendar.specs.Target.{open_day};
 ghost use Rattle.rules.specs.Requests.{open_or_none};

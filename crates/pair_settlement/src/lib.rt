@@ -1,4 +1,6 @@
 // One pair: what settles of a return or a FOP, and the book that it leaves.
+#![tactic(auto)]
+
 ghost use Rattle.std.specs.Prelude.{◌≡◌, ◌<◌, ◌≤◌, length};
 ghost use Rattle.eligibility.specs.Fresh.{FreshBaskets};
 ghost use Rattle.book.specs.Layout.{settled_amounts, amounts, exposure_amounts, book_length};

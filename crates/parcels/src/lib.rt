@@ -1,4 +1,6 @@
 // Whole lots of one security: how many a pick takes, how many a free gives back. One division finds each.
+#![tactic(auto)]
+
 ghost use Rattle.std.specs.Prelude.{◌≡◌, ◌<◌, ◌≤◌, ◌-◌, ◌*◌, ◌/◌, min};
 ghost use Rattle.limits.specs.Limits.{greatest_lot, greatest_nominal};
 ghost use Rattle.securities.specs.Bounds.{InBounds};
@@ -11,7 +13,7 @@ use securities::Security;
 use valuation::Pricing;
 
 // A nominal of one security and a value in cents.
-#[derive(Drop)]
+#[derive(Clone, Copy)]
 pub struct Parcel {
     pub nominal: u64,
     pub value: u64,

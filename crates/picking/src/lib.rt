@@ -1,5 +1,7 @@
 // Pick: collateral for an amount out of an account. Free: collateral that a position no longer needs.
 // Both work on the numbers of one account or position and of the securities, without the book.
+#![tactic(auto)]
+
 ghost use Rattle.std.specs.Prelude.{◌≡◌, ◌<◌, ◌≤◌, get_or};
 ghost use Rattle.baskets.specs.Fresh.{eligible_by};
 ghost use Rattle.securities.specs.Position.{nominals_of};
@@ -15,7 +17,7 @@ use parcels::Parcel;
 
 // A pick's outcome: the nominal picked of each security, the value found in cents, and how many securities.
 #[repr(C)]
-#[derive(Drop)]
+#[derive(Clone, Copy)]
 pub struct Outcome {
     pub nominals: [u64; 64],
     pub value: u64,
@@ -24,7 +26,7 @@ pub struct Outcome {
 
 // What a free leaves: the nominal given back of each security, the value of the position left, and how many securities gave back.
 #[repr(C)]
-#[derive(Drop)]
+#[derive(Clone, Copy)]
 pub struct Freed {
     pub nominals: [u64; 64],
     pub left: u64,

@@ -1,4 +1,6 @@
 // The exported Pick and Free, for any numbers that a host lends: those out of their ranges are refused.
+#![tactic(auto)]
+
 ghost use Rattle.std.specs.Prelude.{◌≡◌};
 ghost use Rattle.picking_calls.specs.Answers.{picked_for, freed_down, legal_pick, legal_days, legal_free, pick_refused, free_refused};
 
@@ -9,14 +11,14 @@ use picking::{Freed, Outcome};
 
 // For a host: code 0 with the outcome, or the code of a refusal with zeros.
 #[repr(C)]
-#[derive(Drop)]
+#[derive(Clone, Copy)]
 pub struct PickAnswer {
     pub code: u64,
     pub outcome: Outcome,
 }
 
 #[repr(C)]
-#[derive(Drop)]
+#[derive(Clone, Copy)]
 pub struct FreeAnswer {
     pub code: u64,
     pub freed: Freed,
@@ -88,8 +90,7 @@ fn refuse_free(code: u64) -> FreeAnswer
 
 // Picks an amount from an account for a basket, for any numbers. Code 4 where one is out of its range,
 // 7 where today or the quote day of a security set up is not open, or a quote is after today.
-#[unsafe(no_mangle)]
-pub extern "C" fn picking_pick(
+pub fn picking_pick(
     account: &[u64; 64],
     columns: &[u64; 256],
     map: u64,
@@ -112,8 +113,7 @@ pub extern "C" fn picking_pick(
 }
 
 // Frees a position down to an exposure, for any numbers. Code 4 where one is out of its range.
-#[unsafe(no_mangle)]
-pub extern "C" fn picking_free(
+pub fn picking_free(
     position: &[u64; 64],
     columns: &[u64; 256],
     exposure: u64,

@@ -1,5 +1,7 @@
 // The reads: an account's or a position's nominal of one security, an exposure, a request by its number, a basket with its report.
 // Each fills a lent answer of fixed length: the code, then the values, which are 0 in a refusal. No read writes to the book.
+#![tactic(auto)]
+
 ghost use Rattle.std.specs.Prelude.{◌≡◌, true, ◌+◌, ◌*◌, ◌≤◌, ◌<◌, length};
 ghost use Rattle.laws.specs.Filled.{filled};
 ghost use Rattle.book.specs.Layout.{book_length, table_count, rows_of, modes};
@@ -138,8 +140,7 @@ fn request_answer(book: &[u8], i: usize) -> [u64; 15]
 }
 
 // The nominal of one security in a participant's account: {code, nominal}.
-#[unsafe(no_mangle)]
-pub extern "C" fn reads_account(book: &[u8], participant: u64, security: u64, answer: &mut [u64; 2])
+pub fn reads_account(book: &[u8], participant: u64, security: u64, answer: &mut [u64; 2])
     ensures { answer.new ≡ read_answer book.now (account participant security) }
 {
     let damaged = damage::book_code(book, false);
@@ -152,8 +153,7 @@ pub extern "C" fn reads_account(book: &[u8], participant: u64, security: u64, an
 }
 
 // The nominal of one security in an exposure's position: {code, nominal}.
-#[unsafe(no_mangle)]
-pub extern "C" fn reads_position(book: &[u8], exposure: u64, security: u64, answer: &mut [u64; 2])
+pub fn reads_position(book: &[u8], exposure: u64, security: u64, answer: &mut [u64; 2])
     ensures { answer.new ≡ read_answer book.now (position exposure security) }
 {
     let damaged = damage::book_code(book, false);
@@ -166,8 +166,7 @@ pub extern "C" fn reads_position(book: &[u8], exposure: u64, security: u64, answ
 }
 
 // An exposure: {code, giver, taker, basket, closing, amount}.
-#[unsafe(no_mangle)]
-pub extern "C" fn reads_exposure(book: &[u8], e: u64, answer: &mut [u64; 6])
+pub fn reads_exposure(book: &[u8], e: u64, answer: &mut [u64; 6])
     ensures { answer.new ≡ read_answer book.now (exposure e) }
 {
     let damaged = damage::book_code(book, false);
@@ -190,8 +189,7 @@ pub extern "C" fn reads_exposure(book: &[u8], e: u64, answer: &mut [u64; 6])
 }
 
 // A basket: {code, map, greatest age, how many securities it holds, the lowest of them}.
-#[unsafe(no_mangle)]
-pub extern "C" fn reads_basket(book: &[u8], b: u64, answer: &mut [u64; 5])
+pub fn reads_basket(book: &[u8], b: u64, answer: &mut [u64; 5])
     ensures { answer.new ≡ read_answer book.now (basket b) }
 {
     let damaged = damage::book_code(book, false);
@@ -212,8 +210,7 @@ pub extern "C" fn reads_basket(book: &[u8], b: u64, answer: &mut [u64; 5])
 
 // A request by its number: {code, kind, side, giver, taker, basket or exposure, amount, settlement, closing, reference, settled,
 // partner's number, partial, cancelled, ended}.
-#[unsafe(no_mangle)]
-pub extern "C" fn reads_request(book: &[u8], number: u64, answer: &mut [u64; 15])
+pub fn reads_request(book: &[u8], number: u64, answer: &mut [u64; 15])
     ensures { answer.new ≡ read_answer book.now (request number) }
 {
     let damaged = damage::book_code(book, false);

@@ -1,6 +1,8 @@
 // Document 01's table of records. Each kind has as many places as the longest; those past its last field are empty.
 // specs/Kinds.antt has the same table for the reader of the promises; the proofs of field_type and types_of compare the two.
 // Each is a match: the compiler keeps it as a table of numbers, while it would build a constant array anew at each use.
+#![tactic(auto)]
+
 ghost use Rattle.std.specs.Prelude.{◌≡◌, map, ◌<◌};
 ghost use Rattle.record_kinds.specs.Kinds.{places, field_of, length_of};
 ghost use Rattle.record_kinds.specs.Typed.{kind_count, typed, row};
@@ -19,7 +21,7 @@ pub const PLACES: usize = 8;
 pub type Fields = [u64; PLACES];
 
 // A field: its bytes, the least and the greatest number that it may hold.
-#[derive(Drop)]
+#[derive(Clone, Copy)]
 pub struct Field {
     pub bytes: usize,
     pub least: u64,
@@ -27,7 +29,7 @@ pub struct Field {
 }
 
 // What a field holds.
-#[derive(Drop)]
+#[derive(Clone, Copy)]
 enum FieldType {
     Empty,
     Any8,

@@ -1,4 +1,6 @@
 // Records: one byte of kind, then the kind's fields, big-endian. A reader and a writer over the one table of record_kinds.
+#![tactic(auto)]
+
 ghost use Rattle.std.specs.Prelude.{◌≡◌, cond, ◌++◌, ◌+◌, ◌≤◌, ◌<◌, T, length, take, drop};
 ghost use Rattle.answers.specs.Answers.{out_of_range};
 ghost use Rattle.laws.specs.Filled.{filled};
@@ -14,7 +16,7 @@ use record_kinds::{Fields, KINDS, PLACES};
 // What the reader answers: code 0, the kind and the numbers of its fields in order, 0 past the last;
 // or the code of a refusal and zeros.
 #[repr(C)]
-#[derive(Drop)]
+#[derive(Clone, Copy)]
 pub struct Reading {
     pub code: u64,
     pub kind: u64,
@@ -120,8 +122,7 @@ fn refuse(code: u64) -> Reading
 }
 
 // Reads a record: code 3 for no or an unknown kind or another length, 4 for a field out of its range.
-#[unsafe(no_mangle)]
-pub extern "C" fn records_read(bytes: &[u8]) -> Reading
+pub fn records_read(bytes: &[u8]) -> Reading
     ensures { result ≡ read bytes.now }
 {
     if bytes.len() == 0 {
@@ -258,8 +259,7 @@ fn range_code(k: usize, fields: &Fields) -> u64
 
 // Writes a record into a lent part of its length. Code 3 for an unknown kind or another length, 4 for a number out
 // of its range, also for one that is not 0 past the last field; the part then stays as it was.
-#[unsafe(no_mangle)]
-pub extern "C" fn records_write(kind: u64, fields: &Fields, part: &mut [u8]) -> u64
+pub fn records_write(kind: u64, fields: &Fields, part: &mut [u8]) -> u64
     ensures value { result ≡ write_code kind fields.now part.old }
     ensures part_after { part.new ≡ written kind fields.now part.old }
 {

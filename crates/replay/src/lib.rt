@@ -1,11 +1,13 @@
 // A stream of calls through the exported entries: records and reads, each getting the book that the last one left.
 // It uses the entries' promises alone, so an entry that promised less of the book or of its code would leave it unproved.
+#![tactic(auto)]
+
 ghost use Rattle.std.specs.Prelude.{◌≡◌, min, length, take};
 ghost use Rattle.rules.specs.Reads.{read_code};
 ghost use Rattle.replay.specs.Replay.{read_of, calls_of, One, Ran};
 
 // A call's code and how many of the bytes it took.
-#[derive(Drop)]
+#[derive(Clone, Copy)]
 pub struct Done {
     pub code: u64,
     pub length: usize,

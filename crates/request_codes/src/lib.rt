@@ -1,4 +1,6 @@
 // The codes of a FOP and of a return, rule by rule: each finds the code that its group of rules gives.
+#![tactic(auto)]
+
 ghost use Rattle.std.specs.Prelude.{◌≡◌, ◌<◌, ◌≤◌, length};
 ghost use Rattle.book.specs.Layout.{book_length};
 ghost use Rattle.book.specs.State.{state};

@@ -1,5 +1,7 @@
 // Entering a request: one that waits, one that pairs with an equal one, one with a taker request made for it; and the exposure
 // that a FOP pair belongs to.
+#![tactic(auto)]
+
 ghost use Rattle.std.specs.Prelude.{◌≡◌, ◌<◌, length};
 ghost use Rattle.book.specs.Layout.{book_length};
 ghost use Rattle.book.specs.State.{state};

@@ -1,4 +1,6 @@
 // Writing a request's row: its parts, the row that is taken for it, and the pair's partial mark.
+#![tactic(auto)]
+
 ghost use Rattle.std.specs.Prelude.{◌≡◌, ◌<◌, ◌≤◌, length};
 ghost use Rattle.limits.specs.Limits.{greatest_next};
 ghost use Rattle.book.specs.Layout.{book_length};

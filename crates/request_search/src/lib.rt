@@ -1,4 +1,6 @@
 // What a request or a cancel looks for in the book: acceptance, the earliest equal request, free rows, the owner's request.
+#![tactic(auto)]
+
 ghost use Rattle.std.specs.Prelude.{◌≡◌, not, ◌&&◌, ◌<◌, ◌≤◌, length};
 ghost use Rattle.book.specs.Layout.{book_length};
 ghost use Rattle.book.specs.State.{state};

@@ -1,5 +1,7 @@
 // Kinds 6 to 8: FOP, return, cancel. For each a function that finds the code of a record in its ranges, and one that takes the
 // step of an accepted record. Equal requests pair earliest first (`request_search::earliest_equal`).
+#![tactic(auto)]
+
 ghost use Rattle.std.specs.Prelude.{◌≡◌, true, length};
 ghost use Rattle.book.specs.Layout.{book_length};
 ghost use Rattle.book.specs.State.{state};

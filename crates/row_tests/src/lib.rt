@@ -1,4 +1,6 @@
 // Rows of the book tested for nothing, or compared.
+#![tactic(auto)]
+
 ghost use Rattle.std.specs.Prelude.{◌≡◌, ◌<◌, ◌≤◌, ◌+◌, length, eqb};
 ghost use Rattle.book.specs.Layout.{book_length, table_count, rows_of};
 ghost use Rattle.book.specs.State.{state};

@@ -1,5 +1,7 @@
 // The 64 securities of the desk by their numbers, and what a position in them is worth.
 // They come as four columns of 64 numbers: lots, prices, haircuts, quote days. A lot of 0 is a security not set up.
+#![tactic(auto)]
+
 ghost use Rattle.std.specs.Prelude.{◌≡◌, ◌<◌, ◌≤◌, true};
 ghost use Rattle.calendar.specs.Target.{open_day};
 ghost use Rattle.securities.specs.Position.{worth, value_at, nominals_of, legal_nominal_at, legal_nominals};
@@ -9,7 +11,7 @@ ghost use Rattle.securities.specs.Bounds.{AllInBounds, Within};
 use limits::{GREATEST_LOT, GREATEST_NOMINAL};
 use valuation::Pricing;
 
-#[derive(Drop)]
+#[derive(Clone, Copy)]
 pub struct Security {
     pub lot: u64,
     pub pricing: Pricing,

@@ -1,4 +1,6 @@
 // Kind 9, settle: the live pairs that are due, returns before FOPs, by settlement date and then in the order in which they paired.
+#![tactic(auto)]
+
 ghost use Rattle.std.specs.Prelude.{◌≡◌, true, length};
 ghost use Rattle.eligibility.specs.Fresh.{FreshBaskets};
 ghost use Rattle.book.specs.Layout.{book_length};

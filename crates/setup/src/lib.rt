@@ -1,5 +1,7 @@
 // Kinds 0 to 3: opening, price, participant, basket. For each a function that finds the code of a record in its ranges (a
 // participant has none), and one that takes the step of an accepted record.
+#![tactic(auto)]
+
 ghost use Rattle.std.specs.Prelude.{◌≡◌, true, length, replicate};
 ghost use Rattle.book.specs.Layout.{book_length};
 ghost use Rattle.book.specs.State.{state};

@@ -1,4 +1,6 @@
 // Document 01's soundness sentence, of the exposures' rows: fields, distinct keys.
+#![tactic(auto)]
+
 ghost use Rattle.std.specs.Prelude.{true, ◌≡◌, ◌+◌, ◌<◌, length};
 ghost use Rattle.laws.specs.Search.{all};
 ghost use Rattle.book.specs.Layout.{book_length};

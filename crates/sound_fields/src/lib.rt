@@ -1,4 +1,6 @@
 // Document 01's soundness sentence, of one used request row: its fields.
+#![tactic(auto)]
+
 ghost use Rattle.std.specs.Prelude.{◌≡◌, ◌<◌, length};
 ghost use Rattle.book.specs.Layout.{book_length};
 ghost use Rattle.book.specs.State.{state};
@@ -14,7 +16,7 @@ use book::layout::{
 use limits::GREATEST_AMOUNT;
 
 // A used row, each field read once: the reference says nothing about soundness.
-#[derive(Drop)]
+#[derive(Clone, Copy)]
 pub struct Request {
     pub row: usize,
     pub number: u64,

@@ -1,4 +1,6 @@
 // Document 01's soundness sentence, of one used request row: its pair, or nothing settled where it has none.
+#![tactic(auto)]
+
 ghost use Rattle.std.specs.Prelude.{◌||◌, ◌≡◌, ◌+◌, ◌<◌, eqb, ltb, length};
 ghost use Rattle.book.specs.Layout.{book_length, term_tables};
 ghost use Rattle.book.specs.State.{state, rows_alike};

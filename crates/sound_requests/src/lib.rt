@@ -1,4 +1,6 @@
 // Document 01's soundness sentence, of all request rows: used ones by their fields and pairs, the others by holding nothing.
+#![tactic(auto)]
+
 ghost use Rattle.std.specs.Prelude.{true, ◌≡◌, ◌*◌, ◌<◌, length};
 ghost use Rattle.laws.specs.Search.{all};
 ghost use Rattle.book.specs.Layout.{book_length, numbers, request_kinds};

@@ -1,4 +1,6 @@
 // Document 01's soundness sentence, of what is set up: the book's head, securities, participants, baskets, spare rows.
+#![tactic(auto)]
+
 ghost use Rattle.std.specs.Prelude.{true, ◌≡◌, ◌<◌, length};
 ghost use Rattle.laws.specs.Search.{all, between};
 ghost use Rattle.book.specs.Layout.{book_length, spares, rows_of};

@@ -1,5 +1,7 @@
 // Document 01's soundness sentence, of what is held: positions in whole lots, a giver's accounts and positions within the limit.
 // One pass over the positions tests both, and passes over nominals of 0.
+#![tactic(auto)]
+
 ghost use Rattle.std.specs.Prelude.{true, ◌≡◌, ◌+◌, ◌*◌, ◌<◌, length};
 ghost use Rattle.laws.specs.Search.{all};
 ghost use Rattle.book.specs.Layout.{book_length};

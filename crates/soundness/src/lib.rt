@@ -1,4 +1,6 @@
 // Document 01's soundness sentence, whole: the test that every call but an opening begins with.
+#![tactic(auto)]
+
 ghost use Rattle.std.specs.Prelude.{◌≡◌, length};
 ghost use Rattle.book.specs.Layout.{book_length};
 ghost use Rattle.book.specs.State.{state};

@@ -1,4 +1,6 @@
 // A recall without the book being touched: the substitutes, and whether it is accepted.
+#![tactic(auto)]
+
 ghost use Rattle.std.specs.Prelude.{◌≡◌, ◌≤◌};
 ghost use Rattle.book.specs.State.{state, columns_of};
 ghost use Rattle.rules.specs.Marking.{substitutes, substituted, recall_accepted};

@@ -1,5 +1,7 @@
 // The three numbers of an accepted call's answer: A, B and M.
-#[derive(Drop)]
+#![tactic(auto)]
+
+#[derive(Clone, Copy)]
 pub struct Totals {
     pub a: u64,
     pub b: u64,

@@ -1,4 +1,6 @@
 // The value of a nominal at a security's price and haircut. It needs no book, and other desks link it by itself.
+#![tactic(auto)]
+
 ghost use Rattle.std.specs.Prelude.{◌≡◌, ◌≤◌};
 ghost use Rattle.limits.specs.Limits.{greatest_nominal};
 ghost use Rattle.valuation.specs.Value.{value, legal_pricing, valued};
@@ -8,7 +10,7 @@ use answers::{CodedValue, OUT_OF_RANGE};
 use limits::{GREATEST_HAIRCUT, GREATEST_NOMINAL, GREATEST_PRICE};
 
 // What the value of a nominal depends on: the price (1,000,000 is par) and the haircut in hundredths of a percent.
-#[derive(Drop)]
+#[derive(Clone, Copy)]
 pub struct Pricing {
     pub price: u64,
     pub haircut: u64,
@@ -52,8 +54,7 @@ pub fn is_legal(pricing: Pricing) -> bool
 }
 
 // The value in cents, for any numbers: code 4 where one is out of its range.
-#[unsafe(no_mangle)]
-pub extern "C" fn valuation_value(nominal: u64, price: u64, haircut: u64) -> CodedValue
+pub fn valuation_value(nominal: u64, price: u64, haircut: u64) -> CodedValue
     ensures { result ≡ valued nominal (record { price = price; haircut = haircut }) }
 {
     let pricing = Pricing { price, haircut };

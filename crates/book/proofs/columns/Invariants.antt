@@ -1,0 +1,19 @@
+-- `book::columns` meets its contract: the places below k are filled.
+-- Assumes nothing.
+use mathlib.Core.Path.{◌≡◌}
+use Prim.Native.Nat.{◌+◌, ◌-◌, ◌/◌, ◌%◌, ◌≤◌}
+use native.Mathlib.Omega.{arith}
+use borrow.Author.Rules.{rules}
+use lib.ListN.{get_or}
+use Rattle.laws.specs.Filled.{filled}
+use Rattle.laws.proofs.Filled.{filled_first, filled_next}
+use Rattle.book.specs.Layout.{security_tables}
+use Rattle.book.specs.State.{state}
+use Rattle.book.proofs.Securities.{column_read}
+use Rattle.book.proofs.columns.Given as goal
+
+abbrev pub invariant-loop-k : goal.invariant-loop-k
+invariant-loop-k l = (l.k ≤ 256) × (l.columns ≡ filled (λ j. state l.book (get_or security_tables (j / 64) 0) (j % 64)) 256 l.k)
+
+abbrev pub decreases-loop-k : goal.decreases-loop-k
+decreases-loop-k l = 256 - l.k

@@ -1,0 +1,52 @@
+-- `book::get` meets its contract, in tables of four bytes a row and of eight.
+-- Assumes nothing.
+use Prim.Native.Nat.{◌+◌, ◌*◌, ◌≤◌}
+use mathlib.Core.Path.{◌≡◌}
+use native.Mathlib.Omega.{arith}
+use borrow.Author.Rules.{rules}
+use Rattle.book.specs.Layout.{width_of, book_length}
+use Rattle.book.proofs.Places.{width_is, width_else, cell_inside}
+use Rattle.book.proofs.Cells.{cell_read}
+use Rattle.book.proofs.get.Goals as goal
+use Rattle.book.proofs.get.Goals.{Else-w-eq4, Then-w-eq4}
+
+four : (c : Then-w-eq4) → 4 ≡ width_of c.args.f
+four c = width_is c.args.f c.width_of-w.ensures c.if-w-eq4.true
+
+four-inside : (c : Then-w-eq4) → c.base_of-at.result + 4 * c.args.i + 4 ≤ book_length
+four-inside c =
+    cell_inside c.args.f c.args.i c.requires.2 c.base_of-at.ensures (four c)
+
+eight : (c : Else-w-eq4) → 8 ≡ width_of c.args.f
+eight c =
+    width_else c.args.f c.args.i c.requires.2 c.width_of-w.ensures c.if-w-eq4.false
+
+eight-inside : (c : Else-w-eq4) → c.base_of-at.result + 8 * c.args.i + 8 ≤ book_length
+eight-inside c =
+    cell_inside c.args.f c.args.i c.requires.2 c.base_of-at.ensures (eight c)
+
+pub overflow_mul-i : goal.overflow_mul-i
+overflow_mul-i c = omega (arith, four-inside c)
+
+pub overflow_add-at : goal.overflow_add-at
+overflow_add-at c = omega (arith, four-inside c)
+
+pub word-requires : goal.word-requires
+word-requires c = omega (arith, four-inside c)
+
+pub overflow_mul-i-else-w-eq4 : goal.overflow_mul-i-else-w-eq4
+overflow_mul-i-else-w-eq4 c = omega (arith, eight-inside c)
+
+pub overflow_add-at-else-w-eq4 : goal.overflow_add-at-else-w-eq4
+overflow_add-at-else-w-eq4 c = omega (arith, eight-inside c)
+
+pub long-requires : goal.long-requires
+long-requires c = omega (arith, eight-inside c)
+
+pub returns-then-w-eq4 : goal.returns-then-w-eq4
+returns-then-w-eq4 c =
+    cell_read c.args.book.now c.args.f c.args.i c.requires.2 c.base_of-at.ensures (four (goal.at.returns-then-w-eq4 c).Then-w-eq4) c.word.ensures.0
+
+pub returns-else-w-eq4 : goal.returns-else-w-eq4
+returns-else-w-eq4 c =
+    cell_read c.args.book.now c.args.f c.args.i c.requires.2 c.base_of-at.ensures (eight (goal.at.returns-else-w-eq4 c).Else-w-eq4) c.long.ensures

@@ -1,0 +1,17 @@
+-- `book::row_at` meets its contract: the places below i are filled.
+-- Assumes nothing.
+use mathlib.Core.Path.{◌≡◌}
+use Prim.Native.Nat.{◌+◌, ◌-◌, ◌≤◌}
+use native.Mathlib.Omega.{arith}
+use borrow.Author.Rules.{rules}
+use Rattle.laws.specs.Filled.{filled}
+use Rattle.laws.proofs.Filled.{filled_first, filled_next}
+use Rattle.book.specs.State.{state}
+use Rattle.book.proofs.Places.{rows_few}
+use Rattle.book.proofs.row_at.Given as goal
+
+abbrev pub invariant-loop-i : goal.invariant-loop-i
+invariant-loop-i l = (l.i ≤ 64) × (l.row ≡ filled (λ k. state l.book l.f (l.start + k)) 64 l.i)
+
+abbrev pub decreases-loop-i : goal.decreases-loop-i
+decreases-loop-i l = 64 - l.i

@@ -1,0 +1,16 @@
+-- `calendar::fresh_days` meets its contract: the ages below that of `first` have their first fresh day.
+-- Assumes nothing.
+use Prim.Native.Nat.{◌+◌, ◌-◌, ◌≤◌, ◌<◌}
+use mathlib.Core.Path.{◌≡◌, sym, ◌∙◌}
+use mathlib.Core.Logic.{⊎_elim}
+use native.Mathlib.Omega.{arith}
+use borrow.Author.Rules.{rules}
+use lib.ListN.{length, length-set}
+use Rattle.calendar.proofs.Fresh.{Walked, walked_starts, walked_shut, walked_open, walked_all, walked_most}
+use Rattle.calendar.proofs.fresh_days.Given as goal
+
+abbrev pub invariant-loop-first : goal.invariant-loop-first
+invariant-loop-first l = (l.age ≤ 256) × (length l.days ≡ 256) × Walked l.today l.first l.age l.days
+
+abbrev pub decreases-loop-first : goal.decreases-loop-first
+decreases-loop-first l = l.first

@@ -1,0 +1,46 @@
+-- `day_change::change_profiles` meets its contract: the profiles below `p` are changed.
+-- Assumes nothing.
+use mathlib.Core.Path.{◌≡◌, sym}
+use Prim.Native.Nat.{◌-◌, ◌≤◌}
+use native.Mathlib.Omega.{arith}
+use lib.ListN.{length}
+use Rattle.book.specs.Layout.{book_length}
+use Rattle.book.specs.State.{state}
+use Rattle.rules.specs.DayChange.{on_each, change_takes_effect, profiles_changed}
+use Rattle.day_laws.proofs.Each.{no_turn}
+use Rattle.day_change.specs.Parts.{profile_waits}
+use Rattle.day_rows.proofs.OnEach.{loop_steps}
+use Rattle.day_change.proofs.Profiles.{profiles_apart}
+use borrow.Author.Rules.{rules}
+use Rattle.day_change.proofs.change_profiles.Goals as goal
+
+pub loop-p-init : goal.loop-p-init
+loop-p-init c =
+    let first = state c.args.book.now in
+    (omega arith, c.requires, sym (no_turn (profile_waits first) change_takes_effect first))
+
+pub change_profile-requires : goal.change_profile-requires
+change_profile-requires c = (c.loop-p.invariant.1, omega arith)
+
+pub overflow_add-p : goal.overflow_add-p
+overflow_add-p c = omega arith
+
+pub loop-p-smaller : goal.loop-p-smaller
+loop-p-smaller c = omega arith
+
+pub loop-p-preserved : goal.loop-p-preserved
+loop-p-preserved c =
+    let first = state c.args.book.now in (
+      omega arith,
+      search rules,
+      loop_steps profile_waits change_takes_effect profiles_apart first c.loop-p.p c.loop-p.invariant.2 c.change_profile.ensures,
+    )
+
+pub shape_of-book : goal.shape_of-book
+shape_of-book c = omega arith
+
+pub returns : goal.returns
+unfolding profiles_changed
+returns c =
+    let e : c.loop-p.p ≡ 32 = omega arith in
+    rw (← e) c.loop-p.invariant.2

@@ -1,0 +1,70 @@
+-- `day_exposures::close_exposures` meets its contract: the exposures below `e` are closed, and their amounts summed.
+-- Assumes nothing.
+use mathlib.Core.Path.{◌≡◌, refl, sym}
+use Prim.Native.Nat.{◌-◌, ◌≤◌}
+use native.Mathlib.Omega.{arith}
+use lib.ListN.{length}
+use Rattle.laws.specs.Sum.{sum}
+use Rattle.laws.proofs.Sum.{sum_next, sum_le}
+use Rattle.book.specs.Layout.{book_length}
+use Rattle.book.specs.State.{state}
+use Rattle.book.proofs.Images.{state_fits}
+use Rattle.rules.specs.DayChange.{on_each, is_exposure_closed, exposure_closed, exposures_closed}
+use Rattle.facts.proofs.Written.{sound_facts}
+use Rattle.facts.specs.Good.{Good}
+use Rattle.day_laws.proofs.Closed.{closing_turned}
+use Rattle.day_laws.proofs.Each.{no_turn}
+use Rattle.day_exposures.specs.Parts.{amount_closed}
+use Rattle.day_exposures.proofs.Exposures.{sound_closable, amount_before, amount_le, closed_apart}
+use Rattle.day_rows.proofs.OnEach.{loop_steps}
+use borrow.Author.Rules.{rules}
+use Rattle.day_exposures.proofs.close_exposures.Goals as goal
+
+pub loop-e-init : goal.loop-e-init
+unfolding sum
+loop-e-init c =
+    let first = state c.args.book.now in
+    (omega arith, c.requires.0, refl, sym (no_turn (is_exposure_closed first) exposure_closed first))
+
+pub close_exposure-closed-requires : goal.close_exposure-closed-requires
+close_exposure-closed-requires c =
+    let first = state c.args.book.now in
+    let good : Good first = record { facts = sound_facts first c.requires.1; fits = state_fits c.args.book.now c.requires.0 (λ j. (c.slice_known-1.given j).fits) } in
+    (c.loop-e.invariant.1, omega arith, rw c.loop-e.invariant.3 (sound_closable _ (closing_turned first good c.loop-e.e c.loop-e.invariant.0).good.facts))
+
+pub overflow_add-closed : goal.overflow_add-closed
+overflow_add-closed c =
+    let first = state c.args.book.now in
+    let closable = sound_closable first (sound_facts first c.requires.1) in
+    omega (
+      arith,
+      sum_le (amount_closed first) 10000000000000 c.loop-e.e (λ d m. amount_le first d (omega arith) closable),
+      amount_before first c.loop-e.e c.loop-e.invariant.3 c.close_exposure-closed.ensures.0,
+      amount_le first c.loop-e.e (omega arith) closable,
+    )
+
+pub overflow_add-e : goal.overflow_add-e
+overflow_add-e c = omega arith
+
+pub loop-e-smaller : goal.loop-e-smaller
+loop-e-smaller c = omega arith
+
+pub loop-e-preserved : goal.loop-e-preserved
+loop-e-preserved c =
+    let a = c.args in
+    let first = state a.book.now in
+    let r = c.close_exposure-closed.ensures in (
+      omega arith,
+      search rules,
+      rw (sum_next, c.loop-e.invariant.2, amount_before first c.loop-e.e c.loop-e.invariant.3 r.0),
+      loop_steps is_exposure_closed exposure_closed closed_apart first c.loop-e.e c.loop-e.invariant.3 r.1,
+    )
+
+pub shape_of-book : goal.shape_of-book
+shape_of-book c = omega arith
+
+pub returns : goal.returns
+unfolding exposures_closed
+returns c =
+    let e : c.loop-e.e ≡ 64 = omega arith in
+    (rw e at c.loop-e.invariant.2, rw (← e) c.loop-e.invariant.3)

@@ -1,0 +1,59 @@
+-- `day_exposures::give_position` meets its contract: the securities below `i` are given back.
+-- Assumes nothing.
+use mathlib.Core.Path.{◌≡◌, sym, ◌∙◌}
+use Prim.Native.Nat.{◌-◌, ◌≤◌, ◌<◌}
+use native.Mathlib.Omega.{arith}
+use lib.ListN.{length}
+use Rattle.book.specs.Layout.{book_length}
+use Rattle.book.specs.State.{state}
+use Rattle.rules.specs.DayChange.{on_each}
+use Rattle.day_laws.proofs.Each.{no_turn}
+use Rattle.day_rows.proofs.OnEach.{loop_steps}
+use Rattle.day_exposures.specs.Parts.{is_held, security_back}
+use Rattle.day_exposures.proofs.Back.{held_apart, position_ahead, account_ahead, position_back}
+use borrow.Author.Rules.{rules}
+use Rattle.day_exposures.proofs.give_position.Goals as goal
+
+pub get-owner-requires : goal.get-owner-requires
+get-owner-requires c =
+    (c.requires.0, omega arith, c.requires.1.below)
+
+pub loop-i-init : goal.loop-i-init
+loop-i-init c =
+    let first = state c.args.book.now in
+    (omega arith, c.requires.0, sym (no_turn (is_held c.args.e first) (security_back c.get-owner.result c.args.e) first))
+
+pub give_security-requires : goal.give_security-requires
+give_security-requires c =
+    let first = state c.args.book.now in
+    let i = c.loop-i.i in
+    let m : i < 64 = omega arith in (
+      c.loop-i.invariant.1,
+      omega (arith, c.get-owner.ensures, c.requires.1.giver),
+      c.requires.1.below,
+      m,
+      rw (c.loop-i.invariant.2, account_ahead c.get-owner.result c.args.e first i, position_ahead c.get-owner.result c.args.e first i, c.get-owner.ensures)
+          (c.requires.1.room i m),
+    )
+
+pub overflow_add-i : goal.overflow_add-i
+overflow_add-i c = omega arith
+
+pub loop-i-smaller : goal.loop-i-smaller
+loop-i-smaller c = omega arith
+
+pub loop-i-preserved : goal.loop-i-preserved
+loop-i-preserved c =
+    let owner = c.get-owner.result in (
+      omega arith,
+      search rules,
+      loop_steps (is_held c.args.e) (security_back owner c.args.e) (held_apart owner c.args.e) (state c.args.book.now) c.loop-i.i c.loop-i.invariant.2 c.give_security.ensures,
+    )
+
+pub shape_of-book : goal.shape_of-book
+shape_of-book c = omega arith
+
+pub returns : goal.returns
+returns c =
+    let end : c.loop-i.i ≡ 64 = omega arith in
+    rw (end, c.get-owner.ensures) at c.loop-i.invariant.2 ∙ position_back c.args.e (state c.args.book.now)

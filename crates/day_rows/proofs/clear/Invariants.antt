@@ -1,0 +1,19 @@
+-- `day_rows::clear` meets its contract: the row holds nothing in the tables below `from + k`.
+-- Assumes nothing.
+use mathlib.Core.Path.{◌≡◌, sym, ap, ◌∙◌}
+use Prim.Native.Nat.{◌+◌, ◌-◌, ◌≤◌}
+use native.Mathlib.Nat.{one-le-pow}
+use native.Mathlib.Omega.{arith}
+use lib.ListN.{length}
+use Rattle.book.specs.Layout.{book_length, width_of}
+use Rattle.book.specs.State.{State, state, put}
+use Rattle.day_rows.specs.Parts.{cleared}
+use Rattle.day_rows.proofs.Rows.{cleared_none, cleared_next}
+use borrow.Author.Rules.{rules}
+use Rattle.day_rows.proofs.clear.Given as goal
+
+abbrev pub invariant-loop-k : goal.invariant-loop-k
+invariant-loop-k l = (l.k ≤ l.n) × (length l.book ≡ book_length) × (state l.book ≡ cleared (state l.initial.book) l.k l.from l.i)
+
+abbrev pub decreases-loop-k : goal.decreases-loop-k
+decreases-loop-k l = l.n - l.k

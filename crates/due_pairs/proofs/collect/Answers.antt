@@ -1,0 +1,22 @@
+-- `due_pairs::collect` meets its contract: the keys of the rows below `i` are collected.
+-- Assumes nothing.
+use mathlib.Core.Path.{◌≡◌}
+use Prim.Native.Nat.{◌-◌, ◌≤◌}
+use native.Mathlib.Omega.{arith}
+use Rattle.book.specs.State.{state}
+use Rattle.due_pairs.specs.Due.{Collected}
+use Rattle.due_pairs.proofs.Keys.{none_noted}
+use borrow.Author.Rules.{rules}
+use Rattle.due_pairs.proofs.collect.Goals as goal
+
+pub loop-i-init : goal.loop-i-init
+loop-i-init c = (omega arith, search none_noted)
+
+pub loop-i-preserved : goal.loop-i-preserved
+loop-i-preserved c = (omega arith, c.note_due-n.ensures)
+
+pub returns : goal.returns
+returns c =
+    let l = c.loop-i in
+    let e : l.i ≡ 256 = omega arith in
+    rw e at l.invariant.1

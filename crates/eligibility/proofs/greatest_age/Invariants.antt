@@ -1,0 +1,16 @@
+-- `eligibility::greatest_age` meets its contract: no basket below `b` takes an older price.
+-- Assumes nothing.
+use mathlib.Core.Path.{◌≡◌}
+use Prim.Native.Nat.{◌-◌, ◌≤◌}
+use native.Mathlib.Omega.{arith}
+use Rattle.book.specs.State.{state}
+use Rattle.eligibility.specs.Fresh.{Aged}
+use Rattle.eligibility.proofs.Fresh.{aged_first, aged_next}
+use borrow.Author.Rules.{rules}
+use Rattle.eligibility.proofs.greatest_age.Given as goal
+
+abbrev pub invariant-loop-b : goal.invariant-loop-b
+invariant-loop-b l = (l.b ≤ 16) × Aged l.most l.b (state l.book) × (l.most ≤ 255)
+
+abbrev pub decreases-loop-b : goal.decreases-loop-b
+decreases-loop-b l = 16 - l.b

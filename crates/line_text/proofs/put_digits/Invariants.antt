@@ -1,0 +1,16 @@
+-- `line_text::put_digits` meets its contract: after i digits, the first i are put.
+-- Assumes nothing.
+use mathlib.Core.Path.{◌≡◌, refl}
+use Prim.Native.Nat.{◌-◌, ◌≤◌}
+use native.Mathlib.Omega.{arith}
+use lib.ListN.{length, take, length-set}
+use borrow.Author.Rules.{rules}
+use Rattle.line_text.specs.Buffer.{with_text}
+use Rattle.line_text.proofs.Texts.{text_none, text_digit}
+use Rattle.line_text.proofs.put_digits.Given as goal
+
+abbrev pub invariant-loop-i : goal.invariant-loop-i
+invariant-loop-i l = (l.i ≤ l.count) × (l.count ≤ 20) × (length l.digits ≡ 20) × (length l.lines ≡ length l.initial.lines) × (l.lines ≡ with_text l.initial.lines l.at (take l.i l.digits))
+
+abbrev pub decreases-loop-i : goal.decreases-loop-i
+decreases-loop-i l = l.count - l.i

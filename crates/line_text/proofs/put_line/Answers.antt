@@ -1,0 +1,18 @@
+-- `line_text::put_line` meets its contract: six numbers, each behind the one before.
+-- Assumes nothing.
+use borrow.Author.Rules.{rules}
+use Rattle.line_text.specs.Buffer.{answer_of}
+use Rattle.line_text.proofs.Texts.{line_put}
+use Rattle.line_text.proofs.put_line.Goals as goal
+
+pub returns : goal.returns
+returns c =
+    let first = c.put_number-a in
+    let kind = c.wide in
+    let second = c.put_number-b in
+    let third = c.put_number-c in
+    let fourth = c.put_number-d in
+    let fifth = c.put_number-e in
+    let sixth = c.put_number in
+    rw kind.ensures at
+    (line_put c.args.lines.now first.new.0 second.new.0 third.new.0 fourth.new.0 fifth.new.0 sixth.new.0 c.args.at first.result second.result third.result fourth.result fifth.result sixth.result c.args.place kind.result (answer_of c.args.answer.now) first.ensures second.ensures third.ensures fourth.ensures fifth.ensures sixth.ensures c.requires)

@@ -1,0 +1,16 @@
+-- `mark_steps::ineligible` meets its contract: the securities below `i` are looked at.
+-- Assumes nothing.
+use borrow.Author.Rules.{rules}
+use mathlib.Core.Path.{◌≡◌}
+use Prim.Native.Nat.{◌-◌, ◌≤◌}
+use native.Mathlib.Omega.{arith}
+use Rattle.laws.specs.Filled.{filled}
+use Rattle.laws.proofs.Filled.{filled_first, filled_next}
+use Rattle.mark_steps.specs.Stepped.{ineligible_in}
+use Rattle.mark_steps.proofs.ineligible.Given as goal
+
+abbrev pub invariant-loop-i : goal.invariant-loop-i
+invariant-loop-i l = (l.i ≤ 64) × (l.nominals ≡ filled (ineligible_in l.position l.columns l.x) 64 l.i)
+
+abbrev pub decreases-loop-i : goal.decreases-loop-i
+decreases-loop-i l = 64 - l.i

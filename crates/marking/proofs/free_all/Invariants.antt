@@ -1,0 +1,28 @@
+-- `marking::free_all` meets its contract: the exposures below `e` are freed.
+-- Assumes nothing.
+use mathlib.Core.Path.{◌≡◌}
+use mathlib.Core.Bool.{Bool}
+use Prim.Native.Nat.{ℕ, ◌-◌, ◌≤◌}
+use native.Mathlib.Omega.{arith}
+use lib.ListN.{get_or}
+use Rattle.laws.specs.Filled.{filled}
+use Rattle.laws.specs.Sum.{sum}
+use Rattle.laws.proofs.Filled.{filled_first, filled_next}
+use Rattle.book.specs.State.{State, state}
+use Rattle.mark_steps.proofs.Passable.{second_pass}
+use Rattle.rules.specs.Marking.{on_exposures, moved, excess_back, missing_of}
+use Rattle.marking.specs.Flags.{or_flag}
+use Rattle.marking.proofs.Counts.{sum_none, sum_more, or_flag_lem, or_le}
+use Rattle.marking.proofs.Passing.{On, on_start, on_step, on_end, on_flag, on_missing}
+use borrow.Author.Rules.{rules}
+use Rattle.marking.proofs.free_all.Given as goal
+
+abbrev pub invariant-loop-e : goal.invariant-loop-e
+invariant-loop-e l =     (l.e ≤ 64)
+    × On excess_back l.columns l.initial.book l.book l.e
+    × (l.count ≡ sum (λ j. or_flag (get_or l.gave j 0) (gives (state l.initial.book) j)) l.e)
+    × (l.count ≤ l.e)
+    × (l.missing ≡ filled (missing_of (after (state l.initial.book))) 64 l.e)
+
+abbrev pub decreases-loop-e : goal.decreases-loop-e
+decreases-loop-e l = 64 - l.e

@@ -1,0 +1,17 @@
+-- `picking::pick` meets its contract: the outcome is that of the securities below `i`.
+-- Assumes nothing.
+use mathlib.Core.Path.{◌≡◌, refl, ap}
+use Prim.Native.Nat.{ℕ, ◌+◌, ◌-◌, ◌≤◌, ◌<◌, min}
+use native.Mathlib.Omega.{arith}
+use Rattle.baskets.specs.Fresh.{eligible_by}
+use Rattle.picking.specs.Pick.{but_not, picked_below}
+use Rattle.picking.specs.declared.Outcome.{Outcome}
+use Rattle.picking.proofs.Picks.{parcel_worth, picked_value, picked_count, picked_next}
+use borrow.Author.Rules.{rules}
+use Rattle.picking.proofs.pick.Given as goal
+
+abbrev pub invariant-loop-i : goal.invariant-loop-i
+invariant-loop-i l = (l.i ≤ 64) × (◌≡◌ {A = Outcome} (record { nominals = l.nominals; value = l.value; count = l.count }) (picked_below l.columns l.account (but_not l.omitted (eligible_by l.x l.columns)) l.amount l.i))
+
+abbrev pub decreases-loop-i : goal.decreases-loop-i
+decreases-loop-i l = 64 - l.i

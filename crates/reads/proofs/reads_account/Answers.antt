@@ -1,0 +1,20 @@
+-- `reads::reads_account` meets its contract.
+-- Assumes nothing.
+use Prim.Native.Nat.{◌<◌}
+use native.Mathlib.Omega.{arith}
+use Rattle.reads.proofs.Answers.{accepted_length, damaged, account_answer}
+use Rattle.reads.proofs.Returns.{row_in}
+use borrow.Author.Rules.{rules}
+use Rattle.reads.proofs.reads_account.Goals as goal
+
+pub returns-then-damaged-ne0 : goal.returns-then-damaged-ne0
+returns-then-damaged-ne0 c = search damaged
+
+pub participant_rules-code-requires : goal.participant_rules-code-requires
+participant_rules-code-requires c = search accepted_length
+
+pub nominal_answer-requires : goal.nominal_answer-requires
+nominal_answer-requires c = (search accepted_length, search rules, λ z. (let near : c.args.participant < 32 = search row_in in (omega arith, omega arith)))
+
+pub returns : goal.returns
+returns c = search account_answer

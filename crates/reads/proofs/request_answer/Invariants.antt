@@ -1,0 +1,17 @@
+-- `reads::request_answer` meets its contract: the numbers below `k` are filled in.
+-- Assumes nothing.
+use Prim.Native.Nat.{◌-◌, ◌≤◌}
+use native.Mathlib.Omega.{arith}
+use mathlib.Core.Path.{◌≡◌}
+use Rattle.laws.specs.Filled.{filled}
+use Rattle.laws.proofs.Filled.{filled_first, filled_next}
+use Rattle.book.specs.State.{state}
+use Rattle.reads.specs.Entries.{request_number}
+use borrow.Author.Rules.{rules}
+use Rattle.reads.proofs.request_answer.Given as goal
+
+abbrev pub invariant-loop-k : goal.invariant-loop-k
+invariant-loop-k l = (l.k ≤ 15) × (l.numbers ≡ filled (request_number (state l.book) l.i) 15 l.k)
+
+abbrev pub decreases-loop-k : goal.decreases-loop-k
+decreases-loop-k l = 15 - l.k

@@ -1,0 +1,36 @@
+-- `recalls::recall` meets its contract.
+-- Assumes nothing.
+use Rattle.book.specs.State.{state}
+use Rattle.marking_laws.proofs.Ranges.{recall_in}
+use Rattle.recalls.proofs.Returns.{accepted_recalling, one_gives, found_pledges, recall_whole}
+use borrow.Author.Rules.{rules}
+use Rattle.recalls.proofs.recall.Goals as goal
+
+pub substitutes-found-requires : goal.substitutes-found-requires
+substitutes-found-requires c =
+    (accepted_recalling c.args.book.now c.args.fields.now c.requires.0 c.requires.1 c.requires.2 c.requires.3, c.columns-columns.ensures)
+
+pub offset_bounds-one-i : goal.offset_bounds-one-i
+offset_bounds-one-i c =
+    let fields = recall_in c.args.fields.now c.requires.1 in
+    search rules
+
+pub bounds-one-i : goal.bounds-one-i
+bounds-one-i c =
+    let fields = recall_in c.args.fields.now c.requires.1 in
+    search rules
+
+pub give_back-requires : goal.give_back-requires
+give_back-requires c =
+    (c.requires.0, one_gives (accepted_recalling c.args.book.now c.args.fields.now c.requires.0 c.requires.1 c.requires.2 c.requires.3) (λ i. (c.slice_known-1.given i).fits))
+
+pub pledge-requires : goal.pledge-requires
+pledge-requires c =
+    (
+      search rules,
+      found_pledges (accepted_recalling c.args.book.now c.args.fields.now c.requires.0 c.requires.1 c.requires.2 c.requires.3) (λ i. (c.slice_known-1.given i).fits) c.give_back.ensures c.substitutes-found.ensures,
+    )
+
+pub returns : goal.returns
+returns c =
+    recall_whole (state c.args.book.now) c.args.fields.now c.give_back.ensures c.substitutes-found.ensures c.pledge.ensures

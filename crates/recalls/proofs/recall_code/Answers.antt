@@ -1,0 +1,27 @@
+-- `recalls::recall_code` meets its contract.
+-- Assumes nothing.
+use Rattle.book.specs.State.{state}
+use Rattle.recalls.proofs.Returns.{code_names, code_holds, all_passed, code_none, code_refused}
+use borrow.Author.Rules.{rules}
+use Rattle.recalls.proofs.recall_code.Goals as goal
+
+pub returns-then-names-ne0 : goal.returns-then-names-ne0
+returns-then-names-ne0 c = search code_names
+
+pub returns-then-holds-ne0 : goal.returns-then-holds-ne0
+returns-then-holds-ne0 c = search code_holds
+
+pub is_accepted-requires : goal.is_accepted-requires
+is_accepted-requires c =
+    record {
+      long = c.requires.0;
+      sound_book = c.requires.2;
+      legal = c.requires.1;
+      recallable = all_passed (state c.args.book.now) c.args.fields.now c.names_code-names.ensures c.if-names-ne0.false c.holds_code-holds.ensures c.if-holds-ne0.false;
+    }
+
+pub returns-then-is_accepted : goal.returns-then-is_accepted
+returns-then-is_accepted c = search code_none
+
+pub returns-else-is_accepted : goal.returns-else-is_accepted
+returns-else-is_accepted c = search code_refused

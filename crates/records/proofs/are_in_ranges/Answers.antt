@@ -1,0 +1,22 @@
+-- `records::are_in_ranges` meets its contract: what is left to test from j on decides.
+-- Assumes nothing.
+use Prim.Native.Nat.{◌-◌, ◌≤◌}
+use native.Mathlib.Omega.{arith}
+use borrow.Author.Rules.{rules}
+use Rattle.laws.proofs.Least.{Rest, loop_fails, loop_passes, loop_ends}
+use Rattle.records.specs.Writing.{are_legal}
+use Rattle.records.proofs.Ranges.{legal_at, ranges_first}
+use Rattle.record_kinds.specs.Kinds.{places}
+use Rattle.records.proofs.are_in_ranges.Goals as goal
+
+pub loop-j-init : goal.loop-j-init
+loop-j-init c = (omega arith, search ranges_first)
+
+pub returns-then-not-is_in_range : goal.returns-then-not-is_in_range
+returns-then-not-is_in_range c = search loop_fails
+
+pub loop-j-preserved : goal.loop-j-preserved
+loop-j-preserved c = (omega arith, search loop_passes)
+
+pub returns : goal.returns
+returns c = search loop_ends

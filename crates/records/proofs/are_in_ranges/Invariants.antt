@@ -1,0 +1,16 @@
+-- `records::are_in_ranges` meets its contract: what is left to test from j on decides.
+-- Assumes nothing.
+use Prim.Native.Nat.{◌-◌, ◌≤◌}
+use native.Mathlib.Omega.{arith}
+use borrow.Author.Rules.{rules}
+use Rattle.laws.proofs.Least.{Rest, loop_fails, loop_passes, loop_ends}
+use Rattle.records.specs.Writing.{are_legal}
+use Rattle.records.proofs.Ranges.{legal_at, ranges_first}
+use Rattle.record_kinds.specs.Kinds.{places}
+use Rattle.records.proofs.are_in_ranges.Given as goal
+
+abbrev pub invariant-loop-j : goal.invariant-loop-j
+invariant-loop-j l = (l.j ≤ places) × Rest (legal_at l.k l.fields) places l.j (are_legal l.k l.fields)
+
+abbrev pub decreases-loop-j : goal.decreases-loop-j
+decreases-loop-j l = places - l.j

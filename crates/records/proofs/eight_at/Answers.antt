@@ -1,0 +1,8 @@
+-- `records::eight_at` meets its contract.
+-- Assumes nothing.
+use borrow.Author.Rules.{rules}
+use Rattle.laws.proofs.Numbers.{number_halves}
+use Rattle.records.proofs.eight_at.Goals as goal
+
+pub returns : goal.returns
+returns c = search (number_halves 4)

@@ -1,0 +1,8 @@
+-- `records::put_four` meets its contract.
+-- Assumes nothing.
+use borrow.Author.Rules.{rules}
+use Rattle.laws.proofs.Patches.{put_halves}
+use Rattle.records.proofs.put_four.Goals as goal
+
+pub returns : goal.returns
+returns c = search (put_halves 2)

@@ -1,0 +1,8 @@
+-- `records::put_one` meets its contract.
+-- Assumes nothing.
+use borrow.Author.Rules.{rules}
+use Rattle.laws.proofs.Patches.{put_byte}
+use Rattle.records.proofs.put_one.Goals as goal
+
+pub returns : goal.returns
+returns c = search put_byte

@@ -1,0 +1,9 @@
+-- `records::put_parties` meets its contract.
+-- Assumes nothing.
+use borrow.Author.Rules.{rules}
+use Rattle.records.proofs.Fop.{parties_put}
+use Rattle.records.proofs.put_parties.Goals as goal
+
+pub returns : goal.returns
+returns c =
+    parties_put c.args.fields.now c.args.part.now c.put_one.ensures c.put_one-2.ensures c.put_one-3.ensures c.put_one-4.ensures c.put_one-5.ensures

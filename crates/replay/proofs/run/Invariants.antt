@@ -1,0 +1,15 @@
+-- `replay::run` meets its contract: what is done so far is the calls so far.
+-- Assumes nothing.
+use mathlib.Core.Path.{◌≡◌}
+use Prim.Native.Nat.{◌-◌}
+use native.Mathlib.Omega.{arith}
+use lib.ListN.{length}
+use Rattle.replay.proofs.Stream.{Walk, length_part, walk_begins, walk_goes_on, walk_done}
+use borrow.Author.Rules.{rules}
+use Rattle.replay.proofs.run.Given as goal
+
+abbrev pub invariant-loop-k : goal.invariant-loop-k
+invariant-loop-k l = Walk (length l.initial.codes) l.calls l.bytes l.initial.book l.book l.initial.codes l.codes l.k l.at
+
+abbrev pub decreases-loop-k : goal.decreases-loop-k
+decreases-loop-k l = l.n - l.k

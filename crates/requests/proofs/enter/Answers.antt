@@ -1,0 +1,8 @@
+-- `requests::enter` meets its contract.
+-- Assumes nothing.
+use Rattle.requests.proofs.StepReturns.{entered_totals}
+use borrow.Author.Rules.{rules}
+use Rattle.requests.proofs.enter.Goals as goal
+
+pub returns : goal.returns
+returns c = (search entered_totals, search rules)

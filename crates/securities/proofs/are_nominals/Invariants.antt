@@ -1,0 +1,16 @@
+-- `securities::are_nominals` meets its contract: those below `i` passed.
+-- Assumes nothing.
+use Prim.Native.Nat.{ℕ, ◌-◌, ◌≤◌}
+use mathlib.Core.Path.{refl}
+use native.Mathlib.Omega.{arith}
+use Rattle.laws.specs.Search.{all}
+use Rattle.laws.proofs.Least.{Rest, loop_fails, loop_passes, loop_ends}
+use Rattle.securities.specs.Position.{legal_nominal_at}
+use borrow.Author.Rules.{rules}
+use Rattle.securities.proofs.are_nominals.Given as goal
+
+abbrev pub invariant-loop-i : goal.invariant-loop-i
+invariant-loop-i l = (l.i ≤ 64) × Rest (legal_nominal_at l.nominals) 64 l.i (all (legal_nominal_at l.nominals) 64 0)
+
+abbrev pub decreases-loop-i : goal.decreases-loop-i
+decreases-loop-i l = 64 - l.i

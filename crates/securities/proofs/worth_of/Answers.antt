@@ -1,0 +1,32 @@
+-- `securities::worth_of` meets its contract: the sum is that of the securities below `i`.
+-- Assumes nothing.
+use Prim.Native.Nat.{ℕ, ◌-◌, ◌≤◌}
+use mathlib.Core.Path.{◌≡◌, refl, ap, ◌∙◌}
+use native.Mathlib.Omega.{arith}
+use Rattle.laws.specs.Sum.{sum}
+use Rattle.laws.proofs.Sum.{sum_next}
+use Rattle.securities.specs.Position.{worth, value_at, nominals_of}
+use Rattle.securities.proofs.Positions.{value_at_le, sum_worth_le}
+use borrow.Author.Rules.{rules}
+use Rattle.securities.proofs.worth_of.Goals as goal
+
+pub loop-i-init : goal.loop-i-init
+unfolding sum
+loop-i-init c = (omega arith, refl)
+
+pub overflow_add-cents : goal.overflow_add-cents
+overflow_add-cents c =
+    let n = nominals_of c.args.nominals.now in
+    let at = value_at_le c.args.columns.now c.requires.0 n c.requires.1 c.loop-i.i (omega arith) in
+    let below = sum_worth_le c.args.columns.now c.requires.0 n c.requires.1 c.loop-i.i c.loop-i.invariant.0 in
+    omega (arith, c.value_at-cents.ensures, c.loop-i.invariant.1)
+
+pub loop-i-preserved : goal.loop-i-preserved
+loop-i-preserved c =
+    (omega arith, rw (sum_next, c.value_at-cents.ensures, c.loop-i.invariant.1))
+
+pub returns : goal.returns
+unfolding worth
+returns c =
+    let e : c.loop-i.i ≡ 64 = omega arith in
+    rw e at c.loop-i.invariant.1

@@ -1,0 +1,19 @@
+-- `settlement::settle_pairs` meets its contract: `n` pairs are tried, and what is left of the list leads to the same end.
+-- Assumes nothing.
+use mathlib.Core.Path.{sym, ◌∙◌, ◌≡◌}
+use mathlib.Core.List.{List}
+use Prim.Native.Nat.{ℕ, ◌-◌, ◌≤◌, ◌<◌}
+use native.Mathlib.Omega.{arith}
+use lib.ListN.{length, length-replicate}
+use Rattle.eligibility.proofs.Fresh.{fresh_same}
+use Rattle.book.specs.Layout.{book_length}
+use Rattle.book.specs.State.{state}
+use Rattle.settlement.proofs.Passes.{within_room, Underway, underway_starts, underway_next, underway_done, underway_ends, next_pair, next_small}
+use borrow.Author.Rules.{rules}
+use Rattle.settlement.proofs.settle_pairs.Given as goal
+
+abbrev pub invariant-loop-n : goal.invariant-loop-n
+invariant-loop-n l = (l.n ≤ 256) × (length l.book ≡ book_length) × ((rows : List ℕ) × Underway l.kind (state l.initial.book) l.initial.total l.n l.last (state l.book) l.total rows) × (l.last < 72057594037927935)
+
+abbrev pub decreases-loop-n : goal.decreases-loop-n
+decreases-loop-n l = 256 - l.n

@@ -1,0 +1,15 @@
+-- `setup::clear` meets its contract: the bytes below `i` are 0.
+-- Assumes nothing.
+use mathlib.Core.Path.{◌≡◌, refl, ◌∙◌}
+use Prim.Native.Nat.{◌≤◌, ◌-◌}
+use native.Mathlib.Omega.{arith}
+use lib.ListN.{length, length-set}
+use Rattle.setup.proofs.Zeros.{ZeroTo, zero_next, zero_all}
+use borrow.Author.Rules.{rules}
+use Rattle.setup.proofs.clear.Given as goal
+
+abbrev pub invariant-loop-i : goal.invariant-loop-i
+invariant-loop-i l = (length l.book ≡ length l.initial.book) × (l.i ≤ length l.initial.book) × ZeroTo l.book l.i
+
+abbrev pub decreases-loop-i : goal.decreases-loop-i
+decreases-loop-i l = length l.initial.book - l.i

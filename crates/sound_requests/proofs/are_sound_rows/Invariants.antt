@@ -1,0 +1,22 @@
+-- `sound_requests::are_sound_rows` meets its contract: those below `16 * k` passed, and the days at hand are open.
+-- Assumes nothing.
+use Prim.Native.Nat.{◌*◌, ◌-◌, ◌≤◌}
+use mathlib.Core.Path.{refl}
+use native.Mathlib.Omega.{arith}
+use Rattle.laws.specs.Search.{all}
+use Rattle.laws.proofs.Least.{Rest}
+use Rattle.book.specs.State.{state}
+use Rattle.rules.specs.ByRow.{sound_row}
+use Rattle.open_days.specs.Days.{OpenDays}
+use Rattle.open_days.proofs.Days.{days_start}
+use Rattle.sound_requests.specs.Rows.{Passed}
+use Rattle.sound_requests.proofs.Blocks.{sixteen_fail, sixteen_pass, sixteens_end}
+use Rattle.sound_requests.proofs.Later.{passed_none, passed_sixteen}
+use borrow.Author.Rules.{rules}
+use Rattle.sound_requests.proofs.are_sound_rows.Given as goal
+
+abbrev pub invariant-loop-k : goal.invariant-loop-k
+invariant-loop-k l = (l.k ≤ 16) × Rest (sound_row (state l.book)) 256 (16 * l.k) (all (sound_row (state l.book)) 256 0) × OpenDays l.days × Passed (state l.book) (16 * l.k)
+
+abbrev pub decreases-loop-k : goal.decreases-loop-k
+decreases-loop-k l = 16 - l.k

@@ -1,0 +1,14 @@
+-- `sound_requests::is_sound_later` meets its contract.
+-- Assumes nothing.
+use Rattle.sound_requests.proofs.Later.{later_not_named, later_number, by_cancel}
+use borrow.Author.Rules.{rules}
+use Rattle.sound_requests.proofs.is_sound_later.Goals as goal
+
+pub returns-then-get-i : goal.returns-then-get-i
+returns-then-get-i c = search later_not_named
+
+pub returns-then-get : goal.returns-then-get
+returns-then-get c = search later_number
+
+pub returns : goal.returns
+returns c = search by_cancel

@@ -1,0 +1,23 @@
+-- `sound_setup::are_sound_baskets` meets its contract: those below `b` passed.
+-- Assumes nothing.
+use Prim.Native.Nat.{◌-◌, ◌≤◌}
+use mathlib.Core.Path.{refl}
+use native.Mathlib.Omega.{arith}
+use Rattle.laws.specs.Search.{all}
+use Rattle.laws.proofs.Least.{Rest, loop_fails, loop_passes, loop_ends}
+use Rattle.book.specs.State.{state}
+use Rattle.rules.specs.ByRow.{sound_basket}
+use borrow.Author.Rules.{rules}
+use Rattle.sound_setup.proofs.are_sound_baskets.Goals as goal
+
+pub loop-b-init : goal.loop-b-init
+loop-b-init c = (omega arith, record { decides = refl })
+
+pub returns-then-not-is_sound_basket : goal.returns-then-not-is_sound_basket
+returns-then-not-is_sound_basket c = search loop_fails
+
+pub loop-b-preserved : goal.loop-b-preserved
+loop-b-preserved c = (omega arith, search loop_passes)
+
+pub returns : goal.returns
+returns c = search loop_ends

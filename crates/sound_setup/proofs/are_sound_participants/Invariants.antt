@@ -1,0 +1,17 @@
+-- `sound_setup::are_sound_participants` meets its contract: those below `p` passed.
+-- Assumes nothing.
+use Prim.Native.Nat.{◌-◌, ◌≤◌}
+use mathlib.Core.Path.{refl}
+use native.Mathlib.Omega.{arith}
+use Rattle.laws.specs.Search.{all}
+use Rattle.laws.proofs.Least.{Rest, loop_fails, loop_passes, loop_ends}
+use Rattle.book.specs.State.{state}
+use Rattle.rules.specs.ByRow.{sound_participant}
+use borrow.Author.Rules.{rules}
+use Rattle.sound_setup.proofs.are_sound_participants.Given as goal
+
+abbrev pub invariant-loop-p : goal.invariant-loop-p
+invariant-loop-p l = (l.p ≤ 32) × Rest (sound_participant (state l.book)) 32 l.p (all (sound_participant (state l.book)) 32 0)
+
+abbrev pub decreases-loop-p : goal.decreases-loop-p
+decreases-loop-p l = 32 - l.p

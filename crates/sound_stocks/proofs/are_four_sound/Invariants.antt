@@ -1,0 +1,16 @@
+-- `sound_stocks::are_four_sound` meets its contract: the nominals below `i` are added.
+-- Assumes nothing.
+use Prim.Native.Nat.{◌+◌, ◌*◌, ◌-◌, ◌≤◌, ◌<◌}
+use mathlib.Core.Path.{◌≡◌}
+use native.Mathlib.Omega.{arith}
+use Rattle.book.specs.State.{state}
+use Rattle.sound_stocks.specs.Stocks.{Adding}
+use Rattle.sound_stocks.proofs.Stocks.{four_nothing, four_ends, judged_fails, judged_passes}
+use borrow.Author.Rules.{rules}
+use Rattle.sound_stocks.proofs.are_four_sound.Given as goal
+
+abbrev pub invariant-loop-i : goal.invariant-loop-i
+invariant-loop-i l = (l.end ≡ 4 * l.k + 4) × (l.k < 16) × (l.i ≤ l.end) × Adding (state l.book) l.p l.e l.i l.held
+
+abbrev pub decreases-loop-i : goal.decreases-loop-i
+decreases-loop-i l = l.end - l.i

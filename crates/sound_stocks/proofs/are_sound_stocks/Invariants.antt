@@ -1,0 +1,20 @@
+-- `sound_stocks::are_sound_stocks` meets its contract: the exposures below `e` are added.
+-- Assumes nothing.
+use Prim.Native.Nat.{◌-◌, ◌≤◌}
+use mathlib.Core.Bool.{true}
+use mathlib.Core.Path.{◌≡◌}
+use native.Mathlib.Omega.{arith}
+use Rattle.laws.specs.Search.{all}
+use Rattle.book.specs.State.{state}
+use Rattle.rules.specs.ByRow.{sound_exposure}
+use Rattle.facts.proofs.Truth.{below}
+use Rattle.sound_stocks.specs.Stocks.{Held}
+use Rattle.sound_stocks.proofs.Stocks.{accounts_fail, held_starts, held_ends, judged_ends, judged_passes}
+use borrow.Author.Rules.{rules}
+use Rattle.sound_stocks.proofs.are_sound_stocks.Given as goal
+
+abbrev pub invariant-loop-e : goal.invariant-loop-e
+invariant-loop-e l = (l.e ≤ 64) × (all (sound_exposure (state l.book)) 64 0 ≡ true) × Held (state l.book) l.e l.held
+
+abbrev pub decreases-loop-e : goal.decreases-loop-e
+decreases-loop-e l = 64 - l.e

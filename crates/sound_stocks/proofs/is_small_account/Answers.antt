@@ -1,0 +1,8 @@
+-- `sound_stocks::is_small_account` meets its contract.
+-- Assumes nothing.
+use Rattle.sound_stocks.proofs.Stocks.{by_account}
+use borrow.Author.Rules.{rules}
+use Rattle.sound_stocks.proofs.is_small_account.Goals as goal
+
+pub returns : goal.returns
+returns c = search by_account

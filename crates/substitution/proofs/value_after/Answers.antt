@@ -1,0 +1,26 @@
+-- `substitution::value_after` meets its contract.
+-- Assumes nothing.
+use Rattle.substitution.proofs.Accepting.{book_of, sum_within, value_found, worth_le}
+use Rattle.bonds.proofs.Rows.{bounded}
+use Rattle.securities.specs.Position.{nominals_of}
+use Rattle.securities.specs.Bounds.{Within}
+use borrow.Author.Rules.{rules}
+use Rattle.substitution.proofs.value_after.Goals as goal
+use Rattle.substitution.proofs.value_after.Goals.{After-position-1}
+
+-- the position after the recall is within its bounds
+new-within : (c : After-position-1) → Within (nominals_of c.add_nominals-position.result)
+new-within c = rw c.add_nominals-position.ensures (sum_within c.requires.0 (λ i. (c.shared_slice_known-1.given i).fits) c.position_left-left.ensures c.substitutes-found.ensures)
+
+pub add_nominals-position-requires : goal.add_nominals-position-requires
+add_nominals-position-requires c = sum_within c.requires.0 (λ i. (c.shared_slice_known-1.given i).fits) c.position_left-left.ensures c.substitutes-found.ensures
+
+pub worth_of-requires : goal.worth_of-requires
+worth_of-requires c = (bounded (book_of c.requires.0 c.requires.1), new-within c)
+
+pub returns : goal.returns
+returns c =
+    let k = c.requires in (
+      value_found k.0 k.1 c.position_left-left.ensures c.substitutes-found.ensures c.add_nominals-position.ensures c.worth_of.ensures,
+      worth_le c.args.columns.now c.add_nominals-position.result (bounded (book_of k.0 k.1)) (new-within (goal.at.returns c).After-position-1) c.worth_of.ensures,
+    )

@@ -1,0 +1,24 @@
+-- `valuation::nominal_within` meets its contract: no nominal passes a large amount, and below it one division is the answer.
+-- Assumes nothing.
+use Prim.Native.Nat.{ℕ, ◌-◌, ◌≤◌}
+use borrow.Author.Rules.{rules}
+use native.Mathlib.Nat.{le_of_lt}
+use native.Mathlib.Omega.{arith}
+use Rattle.valuation.proofs.Inverse.{large_amount, by_division, by_division_all, unit_pos, unit_le}
+use Rattle.valuation.proofs.nominal_within.Goals as goal
+
+pub returns-then-cents-ge150000000000 : goal.returns-then-cents-ge150000000000
+returns-then-cents-ge150000000000 c = search large_amount
+
+pub overflow_mul-n-2 : goal.overflow_mul-n-2
+overflow_mul-n-2 c =
+    omega (arith, unit_le c.args.pricing c.requires.1)
+
+pub nonzero_div-n : goal.nonzero_div-n
+nonzero_div-n c = search unit_pos
+
+pub returns-then-n-lt-GREATEST_NOMINAL : goal.returns-then-n-lt-GREATEST_NOMINAL
+returns-then-n-lt-GREATEST_NOMINAL c = search (by_division, unit_pos, le_of_lt)
+
+pub returns-else-n-lt-GREATEST_NOMINAL : goal.returns-else-n-lt-GREATEST_NOMINAL
+returns-else-n-lt-GREATEST_NOMINAL c = search (by_division_all, unit_pos)
