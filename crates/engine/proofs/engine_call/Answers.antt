@@ -25,5 +25,5 @@ take_step-totals-requires c = search accepted_record
 
 pub returns : goal.returns
 returns c =
-    let small : (i : ℕ) → get_or c.take_step-totals.new.0 i 0 < 256 = λ i. (c.slice_known-2-1.given i).fits in
+    let small : (i : ℕ) → get_or c.take_step-totals.new.book i 0 < 256 = λ i. (c.slice_known-2-1.given i).fits in
     (search accepted_book, search accepted_answer)
