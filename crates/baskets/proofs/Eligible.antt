@@ -1,12 +1,12 @@
 -- Laws of eligibility: what each way out of its tests shows, and that the tests by the day of a quote are those by a price's age.
 -- Assumes nothing.
 use mathlib.Core.Path.{◌≡◌, sym, subst, ◌∙◌}
-use mathlib.Core.Bool.{Bool, true, false, not, ◌&&◌, and-false, and-true}
+use mathlib.Core.Bool.{Bool, true, false, and-false, and-true}
 use mathlib.Core.List.{List}
 use Prim.Native.Nat.{ℕ, ◌+◌, ◌≤◌, ◌<◌}
 use native.Mathlib.Decide.{ℕ_discrete}
 use native.Mathlib.Omega.{arith}
-use lib.Dec.{eqb, leb}
+use lib.Dec.{leb}
 use borrow.Author.Tests.{eq-eqb, ne_eqb, le-leb, lt-leb}
 use Rattle.calendar.specs.Fresh.{FreshDays}
 use Rattle.laws.specs.Bits.{has_bit}
@@ -14,7 +14,7 @@ use Rattle.securities.specs.Security.{security_at}
 use Rattle.securities.specs.declared.Security.{Security}
 use Rattle.valuation.specs.Value.{value}
 use Rattle.baskets.specs.Basket.{qualifies, eligible}
-use Rattle.baskets.specs.Fresh.{qualifies_by, eligible_by, NoneBefore, FreshSince, FreshAges, EligibilityFor}
+use Rattle.baskets.specs.Fresh.{qualifies_by, eligible_by, NoneBefore, FreshAges, EligibilityFor}
 use Rattle.baskets.specs.declared.Basket.{Basket}
 use Rattle.baskets.specs.declared.Eligibility.{Eligibility}
 

@@ -1,6 +1,6 @@
 -- What the moves of bonds count on.
 -- Assumes nothing.
-use Rattle.std.specs.Prelude.{◌≡◌, true, List, ℕ, ◌+◌, ◌*◌, ◌≤◌, ◌<◌, length}
+use Rattle.std.specs.Prelude.{◌≡◌, true, List, ℕ, ◌+◌, ◌*◌, ◌<◌, length}
 use Rattle.book.specs.Layout.{book_length, exposure_givers, exposure_baskets, accounts, positions}
 use Rattle.book.specs.State.{State, state, columns_of, lowered}
 use Rattle.book.specs.Fits.{Raisable, Lowerable}

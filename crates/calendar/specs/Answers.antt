@@ -1,6 +1,6 @@
 -- What the calendar answers a host, which may ask of any numbers: document 01's code 7 or the number.
 -- Assumes nothing.
-use Rattle.std.specs.Prelude.{Bool, ◌&&◌, ℕ, leb}
+use Rattle.std.specs.Prelude.{◌&&◌, ℕ, leb}
 use Rattle.answers.specs.declared.CodedValue.{CodedValue}
 use Rattle.answers.specs.Answers.{accepted_if, bad_day}
 use Rattle.calendar.specs.Gregorian.{one_if}

@@ -1,10 +1,9 @@
 -- Document 01, "Edges": the cases marked P, gathered as one table.
 -- Assumes nothing.
-use Rattle.std.specs.Prelude.{◌≡◌, Bool, true, false, ◌&&◌, List, [], ◌∷◌, ℕ, eqb}
+use Rattle.std.specs.Prelude.{◌≡◌, Bool, true, ◌&&◌, List, [], ◌∷◌, ℕ, eqb}
 use Rattle.calendar.specs.Gregorian.{one_if}
 use Rattle.calendar.specs.Target.{open_day, next_open_day, age}
 use Rattle.valuation.specs.Value.{value}
-use Rattle.valuation.specs.declared.Pricing.{Pricing}
 
 -- what the definitions give, and what document 01 says
 pub record Case : Type 0 where

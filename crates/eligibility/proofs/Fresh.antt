@@ -2,7 +2,7 @@
 -- Assumes nothing.
 use mathlib.Core.Path.{◌≡◌, refl, ◌∙◌}
 use mathlib.Core.List.{List}
-use Prim.Native.Nat.{ℕ, zero, suc, ◌+◌, ◌/◌, ◌%◌, ◌≤◌, ◌<◌}
+use Prim.Native.Nat.{ℕ, ◌+◌, ◌≤◌, ◌<◌}
 use native.Mathlib.Decide.{ℕ_discrete}
 use native.Mathlib.Nat.{le_refl}
 use native.Mathlib.Omega.{arith}
@@ -14,7 +14,6 @@ use Rattle.book.specs.Layout.{today, lots, prices, haircuts, quote_days, maps, g
 use Rattle.book.specs.State.{State, columns_of}
 use Rattle.rules.specs.Stock.{basket_of}
 use Rattle.facts.specs.Good.{Sound}
-use Rattle.facts.proofs.Filled.{filled_same}
 use Rattle.facts.proofs.Stock.{age_le, columns_same}
 use Rattle.eligibility.specs.Fresh.{Aged, FreshBaskets, SamePrices}
 

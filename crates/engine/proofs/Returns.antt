@@ -1,22 +1,19 @@
 -- What each return of the exported call shows.
 -- Assumes nothing.
-use mathlib.Core.Path.{◌≡◌, refl, sym, ap, ◌∙◌}
-use mathlib.Core.Bool.{Bool, true, false, not, ◌&&◌, cond, and-false}
+use mathlib.Core.Path.{◌≡◌, sym, ◌∙◌}
+use mathlib.Core.Bool.{true, false, not}
 use mathlib.Core.List.{List, [], ◌∷◌}
 use mathlib.Core.Logic.{⊎_elim}
-use Prim.Native.Nat.{ℕ, zero, suc, ◌<◌}
-use native.Mathlib.Omega.{arith}
+use Prim.Native.Nat.{ℕ, ◌<◌}
 use lib.Dec.{eqb}
 use lib.ListN.{length, get_or}
-use borrow.Author.Tests.{eq-eqb, ne_eqb, eqb-true, not-true, not-false}
+use borrow.Author.Tests.{ne_eqb, eqb-true, not-false}
 use Rattle.laws.proofs.Cases.{either, and_right}
 use Rattle.records.specs.Reading.{read}
 use Rattle.records.specs.declared.Reading as declared
-use Rattle.book.specs.Layout.{book_length}
-use Rattle.book.specs.State.{State, state, image}
+use Rattle.book.specs.State.{state}
 use Rattle.rules.specs.Call.{step_of, record_code, opens, call_code, call_answer, call_book}
 use Rattle.rules.specs.Codes.{code_of}
-use Rattle.rules.specs.Outcome.{answer}
 use Rattle.rules.specs.Sound.{sound}
 use Rattle.totals.specs.Totals.{totals_of}
 use Rattle.totals.specs.declared.Totals as totals

@@ -1,9 +1,8 @@
 -- Soundness as facts of rows: from the code's tests, and back.
 -- Assumes nothing.
 use mathlib.Core.Path.{◌≡◌}
-use mathlib.Core.Bool.{true, ◌&&◌}
+use mathlib.Core.Bool.{true}
 use mathlib.Core.List.{[], ◌∷◌}
-use lib.Dec.{leb}
 use borrow.Author.Tests.{leb-true, le-leb}
 use Rattle.laws.specs.Search.{all}
 use Rattle.book.specs.Layout.{spares, rows_of}

@@ -1,24 +1,24 @@
 -- What the test says of one row, as facts, and back: parties, requests, pairs, exposures, positions.
 -- Assumes nothing.
-use mathlib.Core.Path.{◌≡◌, refl, sym, ◌∙◌}
+use mathlib.Core.Path.{◌≡◌, sym, ◌∙◌}
 use mathlib.Core.Bool.{Bool, true, false, not, ◌&&◌, ◌||◌, cond, or-true}
-use mathlib.Core.List.{List, [], ◌∷◌}
+use mathlib.Core.List.{[], ◌∷◌}
 use mathlib.Core.Logic.{◌⊎◌, inl, inr, ⊎_elim}
-use Prim.Native.Nat.{ℕ, zero, suc, ◌+◌, ◌*◌, ◌-◌, ◌%◌, ◌≤◌, ◌<◌}
+use Prim.Native.Nat.{ℕ, ◌+◌, ◌*◌, ◌%◌, ◌≤◌, ◌<◌}
 use native.Mathlib.Omega.{arith}
 use lib.Dec.{eqb, leb, ltb}
 use borrow.Author.Tests.{leb-true, le-leb, ltb-true, lt-ltb, eqb-true, eqb-false, eq-eqb, ne_eqb, not-true, not-false}
-use Rattle.laws.specs.Search.{all, between}
-use Rattle.laws.proofs.Cases.{either, clash, or_cases}
+use Rattle.laws.specs.Search.{between}
+use Rattle.laws.proofs.Cases.{either, or_cases}
 use Rattle.laws.proofs.Least.{all_at, all_hit}
 use Rattle.calendar.specs.Target.{open_day}
-use Rattle.book.specs.Layout.{today, tolerance, next_number, lots, numbers, request_kinds, sides, givers, takers, baskets_or_exposures, amounts, settlements, closings, references, settled_amounts, partners, pair_partials, cancels, ends, in_use, exposure_givers, exposure_takers, exposure_baskets, exposure_closings, exposure_amounts, positions, term_tables, request_tables, exposure_tables}
-use Rattle.book.specs.State.{State, rows_alike, row_blank}
+use Rattle.book.specs.Layout.{today, tolerance, next_number, lots, numbers, request_kinds, sides, givers, takers, baskets_or_exposures, amounts, settlements, closings, settled_amounts, partners, pair_partials, cancels, ends, in_use, exposure_givers, exposure_takers, exposure_baskets, exposure_closings, exposure_amounts, positions, term_tables}
+use Rattle.book.specs.State.{State, rows_alike}
 use Rattle.book.proofs.Tables.{every_from}
 use Rattle.rules.specs.Requests.{is_used, is_fop, is_return, is_paired, partner_of, exposure_of_fop, open_or_none}
 use Rattle.rules.specs.ByRow.{sound_head, sound_parties, basket_named, return_names, sound_fop, sound_return, sound_kind, sound_marks, sound_fields, same, marks_alike, sound_pair, sound_paired, sound_unpaired, sound_row, sound_exposure, sound_position}
 use Rattle.rules.specs.Stock.{participant_set_up, security_set_up, basket_set_up}
-use Rattle.facts.proofs.Truth.{split, join, Between, between_facts, facts_between, all_of}
+use Rattle.facts.proofs.Truth.{split, join, between_facts, facts_between, all_of}
 
 -- the book as a whole
 pub record Head (s : State) : Type 0 where

@@ -1,33 +1,30 @@
 -- What soundness is worth to Pick and Free: securities, accounts and positions within their bounds.
 -- Assumes nothing.
-use mathlib.Core.Path.{◌≡◌, refl, sym, ap, ◌∙◌}
-use mathlib.Core.Bool.{Bool, true, false, not, ◌&&◌, cond}
-use mathlib.Core.List.{List, [], ◌∷◌}
-use mathlib.Core.Logic.{◌⊎◌, inl, inr, ⊎_elim}
+use mathlib.Core.Path.{◌≡◌, refl, ◌∙◌}
+use mathlib.Core.Bool.{true}
+use mathlib.Core.List.{[], ◌∷◌}
+use mathlib.Core.Logic.{⊎_elim}
 use Prim.Native.Nat.{ℕ, zero, suc, ◌+◌, ◌*◌, ◌/◌, ◌%◌, ◌≤◌, ◌<◌}
 use native.Mathlib.Nat.{zero-add}
 use native.Mathlib.Omega.{arith}
 use lib.Dec.{eqb, leb}
 use lib.ListN.{get_or}
-use borrow.Author.Tests.{leb-true, eqb-true, eq-eqb, ne_eqb, eqb-false, not-true, not-false}
-use Rattle.laws.specs.Filled.{filled}
-use Rattle.laws.specs.Sum.{sum}
+use borrow.Author.Tests.{leb-true, eqb-true, eq-eqb, ne_eqb, not-false}
 use Rattle.laws.proofs.Cases.{either}
 use Rattle.laws.proofs.Filled.{filled_at}
 use Rattle.laws.proofs.Sum.{sum_part}
 use Rattle.calendar.specs.Target.{open_day}
 use Rattle.calendar.proofs.OpenDays.{open_within}
 use Rattle.securities.specs.Security.{security_at}
-use Rattle.securities.specs.Bounds.{InBounds, AllInBounds, Within}
+use Rattle.securities.specs.Bounds.{AllInBounds, Within}
 use Rattle.securities.specs.Position.{nominals_of}
-use Rattle.book.specs.Layout.{today, security_tables, lots, prices, haircuts, quote_days, greatest_ages, maps, in_use, exposure_givers, accounts, positions}
-use Rattle.book.specs.State.{State, columns_of, row_at}
+use Rattle.book.specs.Layout.{today, security_tables, lots, prices, haircuts, quote_days, greatest_ages, in_use, exposure_givers, accounts, positions}
+use Rattle.book.specs.State.{State, columns_of}
 use Rattle.laws.specs.Search.{between}
-use Rattle.rules.specs.ByRow.{sound_security, sound_basket}
 use Rattle.rules.specs.Stock.{security_set_up, basket_set_up, account_of, position_of, holding, position_from}
 use Rattle.facts.specs.Good.{Sound}
 use Rattle.facts.proofs.Filled.{filled_same}
-use Rattle.facts.proofs.Rows.{Head, head_facts, used_exposure, position_facts}
+use Rattle.facts.proofs.Rows.{head_facts, used_exposure, position_facts}
 use Rattle.facts.proofs.Truth.{split, between_facts}
 
 -- the columns of a state, number by number

@@ -1,7 +1,7 @@
 -- An accepted call leaves a sound book: a paper on which the book's own holdings and amounts are the sums is in order, and an accepted
 -- record leaves it in order.
 -- Assumes nothing.
-use mathlib.Core.Path.{◌≡◌, refl, sym, ap, ◌∙◌}
+use mathlib.Core.Path.{◌≡◌, refl}
 use mathlib.Core.Bool.{Bool, true, false, not, ◌&&◌, cond}
 use mathlib.Core.List.{List}
 use mathlib.Core.Logic.{⊎_elim}
@@ -10,15 +10,15 @@ use native.Mathlib.Omega.{arith}
 use lib.Dec.{eqb}
 use lib.ListN.{length, get_or}
 use borrow.Author.Tests.{eqb-true}
-use Rattle.laws.proofs.Cases.{either, and_left, and_right}
+use Rattle.laws.proofs.Cases.{either}
 use Rattle.book.specs.Layout.{book_length, exposure_amounts}
-use Rattle.book.specs.State.{State, state, image}
+use Rattle.book.specs.State.{State, state}
 use Rattle.book.proofs.Images.{state_image, state_fits}
 use Rattle.facts.proofs.Written.{sound_facts, facts_sound}
 use Rattle.facts.specs.Good.{Good}
 use Rattle.records.specs.Reading.{read}
 use Rattle.records.proofs.Readings.{reading_taken}
-use Rattle.rules.specs.Call.{step_of, record_code, opens, call_code, call_step, call_book, LeavesSound, AcceptedLeavesSound}
+use Rattle.rules.specs.Call.{step_of, record_code, opens, call_code, call_step, call_book, AcceptedLeavesSound}
 use Rattle.rules.specs.Sound.{sound}
 use Rattle.rules.specs.Stock.{holding}
 use Rattle.ledger.specs.Ledger.{Paper, Opened, taken_down}

@@ -18,7 +18,7 @@ use Rattle.rules.specs.Outcome.{Step, lowest}
 use Rattle.rules.specs.Fields.{deposit_kind, withdrawal_kind, field}
 use Rattle.rules.specs.Requesting.{entered, cancelled}
 use Rattle.rules.specs.Settlement.{settlement}
-use Rattle.rules.specs.SetUp.{opened, priced, enrolled, basket_made, deposited, withdrawn}
+use Rattle.rules.specs.SetUp.{priced, enrolled, basket_made, deposited, withdrawn}
 use Rattle.facts.proofs.Keeps.{Keeps}
 use Rattle.facts.specs.Good.{Good}
 use Rattle.setup_laws.proofs.SetUp.{good_opening, opening_holds, opening_amount, keeps_price, keeps_participant, keeps_basket, nominal_at, deposit, withdrawal}

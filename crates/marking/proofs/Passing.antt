@@ -21,7 +21,6 @@ use Rattle.bonds.proofs.Rows.{amount_le}
 use Rattle.facts.proofs.Filled.{filled_same}
 use Rattle.rules.specs.Marking.{on_exposures, moved, missing_of}
 use Rattle.rules.specs.Stock.{position_of, value_of}
-use Rattle.marking_laws.specs.Pass.{on_used}
 use Rattle.marking_laws.proofs.Marking.{amounts_kept}
 use Rattle.marking_laws.proofs.Moved.{Bonds, bonds_then, Alike}
 use Rattle.marking_laws.proofs.Passes.{on_none, on_next, own_used, pass_bonds, pass_later, pass_row, pass_moved}

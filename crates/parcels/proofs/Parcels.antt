@@ -1,7 +1,7 @@
 -- Counts of lots of one security: one division finds them.
 -- Assumes nothing.
-use mathlib.Core.Path.{◌≡◌, refl, sym, ap, ◌∙◌}
-use mathlib.Core.Bool.{Bool, true, false}
+use mathlib.Core.Path.{◌≡◌, refl, ap, ◌∙◌}
+use mathlib.Core.Bool.{Bool, false}
 use mathlib.Core.Logic.{◌⊎◌, inl, inr, ⊎_elim}
 use Prim.Native.Nat.{ℕ, zero, suc, ◌+◌, ◌*◌, ◌-◌, ◌/◌, ◌≤◌, ◌<◌, min}
 use native.Mathlib.Nat.{le_refl, zero-mul, mul-zero, one-mul, mul-le-mul_right, sub-zero, le_of_suc-le-suc, lt_of_not-le, le-div_iff_mul-le, div-eq_of_lt}
@@ -17,9 +17,8 @@ use Rattle.valuation.specs.Value.{value}
 use Rattle.valuation.specs.Inverse.{nominal_within}
 use Rattle.valuation.proofs.Inverse.{worth_within, within_worth}
 use Rattle.valuation.proofs.Laws.{value_zero, value_mono}
-use Rattle.parcels.specs.Lots.{parcel, no_parcel, lots_to_pick, parcel_to_pick}
+use Rattle.parcels.specs.Lots.{no_parcel, lots_to_pick, parcel_to_pick}
 use Rattle.parcels.specs.Spare.{lots_to_spare, parcel_to_spare, nominal_to_keep}
-use Rattle.parcels.specs.declared.Parcel.{Parcel}
 
 -- a count within the whole lots of a nominal is a nominal within it, and the other way round
 pub lots_le : {n lot k : ℕ} → 0 < lot → k ≤ n / lot → k * lot ≤ n

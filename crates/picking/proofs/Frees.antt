@@ -12,8 +12,6 @@ use lib.Dec.{leb, ltb}
 use borrow.Author.Tests.{lt-leb, ltb-true}
 use lib.ListN.{length, get_or, set, replicate, length-set, length-replicate, get_or-replicate}
 use lib.Seq.{get_or-set_same, get_or-set_other, set-get_or}
-use Rattle.laws.specs.Search.{largest}
-use Rattle.laws.specs.Sum.{sum}
 use Rattle.laws.proofs.Largest.{largest_same, largest_none}
 use Rattle.laws.proofs.Cases.{either}
 use Rattle.laws.proofs.Sum.{sum_same}
@@ -27,7 +25,6 @@ use Rattle.picking.specs.FreeSteps.{parcel_back, first_to_free}
 use Rattle.parcels.specs.Spare.{lots_to_spare, parcel_to_spare}
 use Rattle.picking.specs.declared.Freed.{Freed}
 use Rattle.parcels.specs.declared.Parcel.{Parcel}
-use Rattle.parcels.proofs.Parcels.{spared_within}
 
 -- on the way, with the n highest securities done
 pub record Freeing (columns position : List ℕ) (n : ℕ) (f : Freed) : Type 0 where

@@ -1,13 +1,13 @@
 -- Laws of a pick.
 -- Assumes nothing.
 use mathlib.Core.Path.{◌≡◌, refl, sym, ap, ◌∙◌}
-use mathlib.Core.Bool.{Bool, true, false, cond, and-true}
+use mathlib.Core.Bool.{Bool, true, false, and-true}
 use mathlib.Core.List.{List}
 use mathlib.Core.Logic.{⊎_elim}
-use Prim.Native.Nat.{ℕ, zero, suc, ◌+◌, ◌-◌, ◌≤◌, ◌<◌, min}
+use Prim.Native.Nat.{ℕ, zero, suc, ◌+◌, ◌-◌, ◌≤◌, ◌<◌}
 use native.Mathlib.Numerals.{add-one}
 use native.Mathlib.Omega.{arith}
-use lib.ListN.{get_or, set}
+use lib.ListN.{get_or}
 use borrow.Author.Tests.{ne_eqb}
 use Rattle.laws.proofs.Cases.{either}
 use Rattle.baskets.specs.Basket.{eligible}
@@ -17,7 +17,7 @@ use Rattle.baskets.specs.declared.Eligibility.{Eligibility}
 use Rattle.baskets.proofs.Eligible.{eligible_same}
 use Rattle.securities.specs.Security.{security_at}
 use Rattle.parcels.specs.Lots.{no_parcel, parcel_to_pick}
-use Rattle.picking.specs.Pick.{nothing, but_not, with_parcel, parcel_from, picked_below, picked}
+use Rattle.picking.specs.Pick.{but_not, with_parcel, parcel_from, picked_below, picked}
 use Rattle.picking.specs.declared.Outcome.{Outcome}
 use Rattle.parcels.specs.declared.Parcel.{Parcel}
 use Rattle.parcels.proofs.Parcels.{picked_worth, pick_empty}

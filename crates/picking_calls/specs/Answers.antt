@@ -1,6 +1,6 @@
 -- What picking answers a host, which may lend any numbers: 4 for a number out of its range, 7 for a day that is not open.
 -- Assumes nothing.
-use Rattle.std.specs.Prelude.{Bool, not, ◌&&◌, ◌||◌, cond, List, ℕ, leb, eqb, replicate}
+use Rattle.std.specs.Prelude.{Bool, not, ◌&&◌, cond, List, ℕ, leb, eqb, replicate}
 use Rattle.limits.specs.Limits.{greatest_exposure}
 use Rattle.answers.specs.Answers.{out_of_range, bad_day}
 use Rattle.baskets.specs.Basket.{eligible}

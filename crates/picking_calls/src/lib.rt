@@ -113,11 +113,7 @@ pub fn picking_pick(
 }
 
 // Frees a position down to an exposure, for any numbers. Code 4 where one is out of its range.
-pub fn picking_free(
-    position: &[u64; 64],
-    columns: &[u64; 256],
-    exposure: u64,
-) -> FreeAnswer
+pub fn picking_free(position: &[u64; 64], columns: &[u64; 256], exposure: u64) -> FreeAnswer
     ensures { result ≡ freed_down columns.now position.now exposure }
 {
     if !is_legal_free(position, columns, exposure) {

@@ -4,7 +4,7 @@ use mathlib.Core.Path.{◌≡◌, refl, sym, ap, ap₂, ◌∙◌}
 use mathlib.Core.Bool.{true, false, cond}
 use mathlib.Core.List.{List, [], ◌∷◌, ◌++◌, append-nil, append_assoc}
 use mathlib.Core.Logic.{⊎_elim}
-use Prim.Native.Nat.{ℕ, zero, suc, ◌+◌, ◌*◌, ◌-◌, ◌/◌, ◌≤◌, ◌<◌, min}
+use Prim.Native.Nat.{ℕ, suc, ◌+◌, ◌*◌, ◌-◌, ◌/◌, ◌≤◌, ◌<◌, min}
 use native.Mathlib.Decide.{dec_le}
 use native.Mathlib.Numerals.{add-one}
 use native.Mathlib.Omega.{arith}
@@ -13,9 +13,8 @@ use lib.ListN.{length, get_or, take, drop, set, length-set, length-take, length-
 use lib.Seq.{take-suc-set, take_all, take-nil, drop-set-lt, drop-drop, get_or-drop}
 use borrow.Author.Tests.{eqb-true, ne_eqb}
 use Rattle.laws.proofs.Cases.{either}
-use Rattle.book.specs.State.{state}
 use Rattle.rules.specs.Call.{call_answer, call_book, call_code}
-use Rattle.ledger.specs.Ledger.{Call, send, ask, paper_codes, book_code, book_next, book_codes, book_after, Holds}
+use Rattle.ledger.specs.Ledger.{Call, paper_codes, book_code, book_next, book_codes, book_after, Holds}
 use Rattle.rules.specs.Outcome.{Answer, answer}
 use Rattle.rules.specs.Reads.{Read, account, position, exposure, request, basket, read_code, read_answer}
 use Rattle.engine.specs.Entry.{numbers_of}

@@ -18,7 +18,7 @@ use Rattle.rules.specs.Outcome.{Step, Event}
 use Rattle.rules.specs.Requests.{exposure_with}
 use Rattle.rules.specs.Stock.{holding}
 use Rattle.rules.specs.ByRow.{sound_row, differs, distinct_number}
-use Rattle.facts.specs.Good.{Sound, Good}
+use Rattle.facts.specs.Good.{Good}
 use Rattle.facts.proofs.Truth.{all_of}
 use Rattle.facts.proofs.Keeps.{Keeps}
 use Rattle.facts.proofs.Rows.{Parties, head_facts, facts_head}

@@ -13,7 +13,6 @@ use lib.ListN.{length, get_or, take, drop, length-take, length-drop}
 use lib.Seq.{get_or-take, get_or-drop}
 use borrow.Author.Tests.{eq-eqb, eqb-true}
 use Rattle.laws.specs.Numbers.{number_at}
-use Rattle.laws.specs.Search.{all}
 use Rattle.laws.proofs.Least.{all_at}
 use Rattle.book.specs.Layout.{book_length, table_count, rows_of, width_of, base_of}
 use Rattle.book.specs.State.{state}

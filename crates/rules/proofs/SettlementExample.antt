@@ -12,7 +12,7 @@ use Rattle.baskets.specs.Basket.{eligible}
 use Rattle.picking.specs.Pick.{parcel_from, picked_below}
 use Rattle.book.specs.Layout.{today, tolerance, numbers, request_kinds, amounts, settlements, partners, pair_partials, in_use, exposure_amounts}
 use Rattle.book.specs.State.{State}
-use Rattle.rules.specs.Outcome.{Event, settled, returned}
+use Rattle.rules.specs.Outcome.{settled, returned}
 use Rattle.rules.specs.Settlement.{is_due, settles_before, due_rows, return_settled, settle_return, fop_case, fop_settles, settle_fop, settle_each, settlement}
 
 -- Today is day 5, the tolerance is 100, exposure 0 has 40. Pairs in the order of their numbers: a return of 30 due on day 5, one of 15 due

@@ -1,7 +1,7 @@
 -- Document 01, "Codes": for each kind the rules that can apply to a record in its ranges, "the lowest that applies" first.
 -- 1, 2 and 3, and 4 by the reader's ranges, come before these (Call.antt).
 -- Assumes nothing.
-use Rattle.std.specs.Prelude.{◌≡◌, Bool, true, false, not, ◌&&◌, ◌||◌, cond, List, [], ◌∷◌, ◌++◌, ℕ, ◌+◌, ◌*◌, ◌-◌, ◌%◌, eqb, leb, ltb, get_or}
+use Rattle.std.specs.Prelude.{◌≡◌, Bool, true, false, not, ◌&&◌, ◌||◌, cond, List, [], ◌∷◌, ◌++◌, ℕ, ◌+◌, ◌*◌, ◌%◌, eqb, leb, ltb, get_or}
 use Rattle.limits.specs.Limits.{greatest_next, greatest_nominal}
 use Rattle.laws.specs.Search.{count}
 use Rattle.calendar.specs.Target.{last_day, open_day, next_open_day}

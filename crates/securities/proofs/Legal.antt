@@ -1,10 +1,10 @@
 -- What each return of the tests of a host's numbers shows, and what the tests are worth to the functions behind them.
 -- Assumes nothing.
 use mathlib.Core.Path.{◌≡◌}
-use mathlib.Core.Bool.{Bool, true, false, ◌&&◌, ◌||◌, and-false, and-true, or-false}
+use mathlib.Core.Bool.{Bool, true, false, ◌&&◌, and-false, and-true, or-false}
 use mathlib.Core.List.{List}
 use mathlib.Core.Logic.{⊎_elim}
-use Prim.Native.Nat.{ℕ, ◌+◌, ◌≤◌, ◌<◌}
+use Prim.Native.Nat.{ℕ, ◌≤◌, ◌<◌}
 use native.Mathlib.Nat.{le_refl}
 use native.Mathlib.Omega.{arith}
 use lib.Dec.{eqb, leb}
@@ -14,11 +14,9 @@ use Rattle.laws.proofs.Cases.{and_left, and_right, or_cases}
 use Rattle.laws.proofs.Least.{all_at}
 use Rattle.calendar.specs.Target.{open_day}
 use Rattle.valuation.specs.Value.{legal_pricing}
-use Rattle.valuation.specs.Inverse.{Bounded}
-use Rattle.valuation.specs.declared.Pricing.{Pricing}
 use Rattle.valuation.proofs.Laws.{legal_bounded}
 use Rattle.securities.specs.declared.Security.{Security}
-use Rattle.securities.specs.Security.{security_at, is_blank, is_listed, legal_security, legal_quote, legal_at, quoted_at, legal_securities, legal_quotes}
+use Rattle.securities.specs.Security.{security_at, is_blank, is_listed, legal_security, legal_quote, legal_at, legal_securities}
 use Rattle.securities.specs.Bounds.{InBounds, AllInBounds, Within}
 use Rattle.securities.specs.Position.{nominals_of, legal_nominal_at, legal_nominals}
 

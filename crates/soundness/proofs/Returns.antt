@@ -1,7 +1,7 @@
 -- Tests one after the other: each way out, and the last test.
 -- Assumes nothing.
 use mathlib.Core.Path.{◌≡◌, sym, ◌∙◌}
-use mathlib.Core.Bool.{Bool, true, false, not, ◌&&◌, and-false}
+use mathlib.Core.Bool.{Bool, true, false, not, ◌&&◌}
 use borrow.Author.Tests.{not-true, not-false}
 
 module _ {a x : Bool} (xq : x ≡ a) where

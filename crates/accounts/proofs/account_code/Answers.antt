@@ -1,7 +1,6 @@
 -- `accounts::account_code` meets its contract.
 -- Assumes nothing.
 use Rattle.accounts.proofs.Returns.{no_participant_lem, no_security_lem, both_set_up}
-use borrow.Author.Rules.{rules}
 use Rattle.accounts.proofs.account_code.Goals as goal
 
 pub returns-then-get-eq0 : goal.returns-then-get-eq0

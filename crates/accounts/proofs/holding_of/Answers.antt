@@ -1,14 +1,12 @@
 -- `accounts::holding_of` meets its contract: the sum is that of the exposures below `e`.
 -- Assumes nothing.
 use mathlib.Core.Path.{◌≡◌, refl}
-use Prim.Native.Nat.{◌+◌, ◌*◌, ◌-◌, ◌≤◌}
+use Prim.Native.Nat.{◌+◌, ◌*◌}
 use native.Mathlib.Omega.{arith}
 use Rattle.laws.specs.Sum.{sum}
 use Rattle.laws.proofs.Sum.{sum_next}
-use Rattle.book.specs.State.{state}
-use Rattle.rules.specs.Stock.{holding, position_from}
+use Rattle.rules.specs.Stock.{holding}
 use Rattle.accounts.proofs.Ranges.{account_small}
-use borrow.Author.Rules.{rules}
 use Rattle.accounts.proofs.holding_of.Goals as goal
 
 pub loop-e-init : goal.loop-e-init

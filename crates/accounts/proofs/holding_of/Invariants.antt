@@ -1,14 +1,10 @@
 -- `accounts::holding_of` meets its contract: the sum is that of the exposures below `e`.
 -- Assumes nothing.
-use mathlib.Core.Path.{◌≡◌, refl}
-use Prim.Native.Nat.{◌+◌, ◌*◌, ◌-◌, ◌≤◌}
-use native.Mathlib.Omega.{arith}
+use mathlib.Core.Path.{◌≡◌}
+use Prim.Native.Nat.{◌*◌, ◌-◌, ◌≤◌}
 use Rattle.laws.specs.Sum.{sum}
-use Rattle.laws.proofs.Sum.{sum_next}
 use Rattle.book.specs.State.{state}
-use Rattle.rules.specs.Stock.{holding, position_from}
-use Rattle.accounts.proofs.Ranges.{account_small}
-use borrow.Author.Rules.{rules}
+use Rattle.rules.specs.Stock.{position_from}
 use Rattle.accounts.proofs.holding_of.Given as goal
 
 abbrev pub invariant-loop-e : goal.invariant-loop-e

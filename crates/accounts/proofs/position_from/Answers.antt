@@ -4,7 +4,6 @@ use Prim.Native.Nat.{◌+◌, ◌*◌}
 use native.Mathlib.Omega.{arith}
 use Rattle.accounts.proofs.Ranges.{position_small}
 use Rattle.accounts.proofs.Returns.{not_used, not_giver, from_used}
-use borrow.Author.Rules.{rules}
 use Rattle.accounts.proofs.position_from.Goals as goal
 
 pub returns-then-get-ne1 : goal.returns-then-get-ne1

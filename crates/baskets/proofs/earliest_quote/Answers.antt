@@ -1,11 +1,8 @@
 -- `baskets::earliest_quote` meets its contract: none of the securities below `i` was quoted before the day.
 -- Assumes nothing.
 use mathlib.Core.Path.{◌≡◌}
-use Prim.Native.Nat.{◌-◌, ◌≤◌}
 use native.Mathlib.Omega.{arith}
-use Rattle.baskets.specs.Fresh.{NoneBefore}
 use Rattle.baskets.proofs.Eligible.{none_first, none_next}
-use borrow.Author.Rules.{rules}
 use Rattle.baskets.proofs.earliest_quote.Goals as goal
 
 pub loop-i-init : goal.loop-i-init

@@ -1,7 +1,6 @@
 -- `baskets::fresh_days` meets its contract.
 -- Assumes nothing.
 use Rattle.baskets.proofs.Eligible.{fresh_ages}
-use borrow.Author.Rules.{rules}
 use Rattle.baskets.proofs.fresh_days.Goals as goal
 
 pub returns : goal.returns

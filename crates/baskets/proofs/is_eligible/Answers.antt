@@ -1,7 +1,6 @@
 -- `baskets::is_eligible` meets its contract.
 -- Assumes nothing.
 use Rattle.baskets.proofs.Eligible.{in_map, not_in_map}
-use borrow.Author.Rules.{rules}
 use Rattle.baskets.proofs.is_eligible.Goals as goal
 
 pub is_qualified-requires : goal.is_qualified-requires

@@ -1,7 +1,6 @@
 -- `baskets::is_qualified` meets its contract.
 -- Assumes nothing.
 use Rattle.baskets.proofs.Eligible.{not_set_up, worthless, by_quote}
-use borrow.Author.Rules.{rules}
 use Rattle.baskets.proofs.is_qualified.Goals as goal
 
 pub returns-then-s-eq0 : goal.returns-then-s-eq0

@@ -1,7 +1,6 @@
 -- `bonds::pick_for` meets its contract.
 -- Assumes nothing.
 use Rattle.bonds.proofs.Steps.{picked_for_lem}
-use borrow.Author.Rules.{rules}
 use Rattle.bonds.proofs.pick_for.Goals as goal
 
 pub pick_for-requires : goal.pick_for-requires

@@ -1,11 +1,9 @@
 -- `book::columns` meets its contract: the places below k are filled.
 -- Assumes nothing.
 use mathlib.Core.Path.{◌≡◌}
-use Prim.Native.Nat.{◌+◌, ◌-◌, ◌/◌, ◌%◌, ◌≤◌}
+use Prim.Native.Nat.{◌/◌, ◌%◌}
 use native.Mathlib.Omega.{arith}
-use borrow.Author.Rules.{rules}
 use lib.ListN.{get_or}
-use Rattle.laws.specs.Filled.{filled}
 use Rattle.laws.proofs.Filled.{filled_first, filled_next}
 use Rattle.book.specs.Layout.{security_tables}
 use Rattle.book.specs.State.{state}

@@ -1,15 +1,11 @@
 -- `book::columns` meets its contract: the places below k are filled.
 -- Assumes nothing.
 use mathlib.Core.Path.{◌≡◌}
-use Prim.Native.Nat.{◌+◌, ◌-◌, ◌/◌, ◌%◌, ◌≤◌}
-use native.Mathlib.Omega.{arith}
-use borrow.Author.Rules.{rules}
+use Prim.Native.Nat.{◌-◌, ◌/◌, ◌%◌, ◌≤◌}
 use lib.ListN.{get_or}
 use Rattle.laws.specs.Filled.{filled}
-use Rattle.laws.proofs.Filled.{filled_first, filled_next}
 use Rattle.book.specs.Layout.{security_tables}
 use Rattle.book.specs.State.{state}
-use Rattle.book.proofs.Securities.{column_read}
 use Rattle.book.proofs.columns.Given as goal
 
 abbrev pub invariant-loop-k : goal.invariant-loop-k

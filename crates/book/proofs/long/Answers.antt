@@ -1,7 +1,6 @@
 -- `book::long` meets its contract.
 -- Assumes nothing.
 use Rattle.laws.proofs.Numbers.{number_halves}
-use borrow.Author.Rules.{rules}
 use Rattle.book.proofs.long.Goals as goal
 
 pub returns : goal.returns

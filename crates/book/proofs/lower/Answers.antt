@@ -1,6 +1,5 @@
 -- `book::lower` meets its contract: the row is changed as a part, and stands in the book again.
 -- Assumes nothing.
-use borrow.Author.Rules.{rules}
 use Rattle.book.proofs.Rows.{lent_lowerable, lent_lowered}
 use Rattle.book.proofs.lower.Goals as goal
 

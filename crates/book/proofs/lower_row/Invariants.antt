@@ -1,10 +1,7 @@
 -- `book::lower_row` meets its contract: the numbers below i are changed.
 -- Assumes nothing.
 use Prim.Native.Nat.{◌-◌, ◌≤◌}
-use native.Mathlib.Omega.{arith}
-use borrow.Author.Rules.{rules}
 use Rattle.book.specs.Row.{LoweredRow}
-use Rattle.book.proofs.Rows.{change_start, lowered_next, change_end, change_enough}
 use Rattle.book.proofs.lower_row.Given as goal
 
 abbrev pub invariant-loop-i : goal.invariant-loop-i

@@ -1,7 +1,6 @@
 -- `book::put_long` meets its contract.
 -- Assumes nothing.
 use Rattle.laws.proofs.Patches.{put_halves}
-use borrow.Author.Rules.{rules}
 use Rattle.book.proofs.put_long.Goals as goal
 
 pub returns : goal.returns

@@ -3,7 +3,6 @@
 use native.Mathlib.Omega.{arith}
 use lib.ListN.{length-set}
 use Rattle.book.proofs.Words.{word_put}
-use borrow.Author.Rules.{rules}
 use Rattle.book.proofs.put_word.Goals as goal
 
 pub bounds-book-at-2 : goal.bounds-book-at-2

@@ -1,6 +1,5 @@
 -- `book::raise` meets its contract: the row is changed as a part, and stands in the book again.
 -- Assumes nothing.
-use borrow.Author.Rules.{rules}
 use Rattle.book.proofs.Rows.{lent_raisable, lent_raised}
 use Rattle.book.proofs.raise.Goals as goal
 

@@ -1,10 +1,7 @@
 -- `book::raise_row` meets its contract: the numbers below i are changed.
 -- Assumes nothing.
-use Prim.Native.Nat.{◌+◌, ◌-◌, ◌≤◌}
-use native.Mathlib.Omega.{arith}
-use borrow.Author.Rules.{rules}
+use Prim.Native.Nat.{◌-◌, ◌≤◌}
 use Rattle.book.specs.Row.{RaisedRow}
-use Rattle.book.proofs.Rows.{change_start, raised_next, change_end, change_room}
 use Rattle.book.proofs.raise_row.Given as goal
 
 abbrev pub invariant-loop-i : goal.invariant-loop-i

@@ -1,10 +1,8 @@
 -- `book::row_at` meets its contract: the places below i are filled.
 -- Assumes nothing.
 use mathlib.Core.Path.{◌≡◌}
-use Prim.Native.Nat.{◌+◌, ◌-◌, ◌≤◌}
+use Prim.Native.Nat.{◌+◌}
 use native.Mathlib.Omega.{arith}
-use borrow.Author.Rules.{rules}
-use Rattle.laws.specs.Filled.{filled}
 use Rattle.laws.proofs.Filled.{filled_first, filled_next}
 use Rattle.book.specs.State.{state}
 use Rattle.book.proofs.Places.{rows_few}

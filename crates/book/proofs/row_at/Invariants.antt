@@ -2,12 +2,8 @@
 -- Assumes nothing.
 use mathlib.Core.Path.{◌≡◌}
 use Prim.Native.Nat.{◌+◌, ◌-◌, ◌≤◌}
-use native.Mathlib.Omega.{arith}
-use borrow.Author.Rules.{rules}
 use Rattle.laws.specs.Filled.{filled}
-use Rattle.laws.proofs.Filled.{filled_first, filled_next}
 use Rattle.book.specs.State.{state}
-use Rattle.book.proofs.Places.{rows_few}
 use Rattle.book.proofs.row_at.Given as goal
 
 abbrev pub invariant-loop-i : goal.invariant-loop-i

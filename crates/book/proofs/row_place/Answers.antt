@@ -2,7 +2,6 @@
 -- Assumes nothing.
 use Prim.Native.Nat.{◌+◌, ◌*◌, ◌≤◌}
 use native.Mathlib.Omega.{arith}
-use borrow.Author.Rules.{rules}
 use Rattle.book.specs.Layout.{book_length}
 use Rattle.book.proofs.Places.{rows_inside}
 use Rattle.book.proofs.row_place.Goals as goal

@@ -3,7 +3,6 @@
 use Prim.Native.Nat.{◌+◌, ◌*◌, ◌≤◌}
 use mathlib.Core.Path.{◌≡◌}
 use native.Mathlib.Omega.{arith}
-use borrow.Author.Rules.{rules}
 use Rattle.book.specs.Layout.{width_of, book_length}
 use Rattle.book.proofs.Places.{width_is, width_else, cell_inside}
 use Rattle.book.proofs.Cells.{cell_written}

@@ -1,12 +1,9 @@
 -- `calendar::age_of` meets its contract: the days before `i` are counted, and those from `i` on are left.
 -- Assumes nothing.
-use Prim.Native.Nat.{◌+◌, ◌-◌, ◌≤◌, ◌<◌}
+use Prim.Native.Nat.{◌+◌, ◌-◌, ◌<◌}
 use mathlib.Core.Path.{◌≡◌, sym, ◌∙◌}
-use mathlib.Core.Logic.{⊎_elim}
 use native.Mathlib.Nat.{zero-add}
 use native.Mathlib.Omega.{arith}
-use borrow.Author.Rules.{rules}
-use Rattle.laws.specs.Search.{count}
 use Rattle.laws.proofs.Least.{count_here, count_on, count_end}
 use Rattle.calendar.specs.Target.{open_day, age}
 use Rattle.calendar.proofs.age_of.Goals as goal
@@ -23,8 +20,8 @@ loop-i-preserved c =
     let n = c.args.today + 1 in
     let below : c.loop-i.i < n = omega arith in
     elim c.if-is_open.branch [
-      then-is_open w ↦ omega (arith, count_here open_day n c.loop-i.i below (sym c.is_open.ensures ∙ w.if-is_open.true))
-    | else-is_open w ↦ omega (arith, count_on open_day n c.loop-i.i below (sym c.is_open.ensures ∙ w.if-is_open.false))
+      | then-is_open w ↦ omega (arith, count_here open_day n c.loop-i.i below (sym c.is_open.ensures ∙ w.if-is_open.true))
+      | else-is_open w ↦ omega (arith, count_on open_day n c.loop-i.i below (sym c.is_open.ensures ∙ w.if-is_open.false))
     ]
 
 pub returns : goal.returns

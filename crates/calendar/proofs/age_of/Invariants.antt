@@ -1,13 +1,8 @@
 -- `calendar::age_of` meets its contract: the days before `i` are counted, and those from `i` on are left.
 -- Assumes nothing.
 use Prim.Native.Nat.{◌+◌, ◌-◌, ◌≤◌, ◌<◌}
-use mathlib.Core.Path.{◌≡◌, sym, ◌∙◌}
-use mathlib.Core.Logic.{⊎_elim}
-use native.Mathlib.Nat.{zero-add}
-use native.Mathlib.Omega.{arith}
-use borrow.Author.Rules.{rules}
+use mathlib.Core.Path.{◌≡◌}
 use Rattle.laws.specs.Search.{count}
-use Rattle.laws.proofs.Least.{count_here, count_on, count_end}
 use Rattle.calendar.specs.Target.{open_day, age}
 use Rattle.calendar.proofs.age_of.Given as goal
 

@@ -1,6 +1,5 @@
 -- `calendar::calendar_is_open` meets its contract.
 -- Assumes nothing.
-use borrow.Author.Rules.{rules}
 use Rattle.calendar.proofs.Answers.{past_last, answers_open, answers_closed}
 use Rattle.calendar.proofs.calendar_is_open.Goals as goal
 

@@ -1,6 +1,5 @@
 -- `calendar::calendar_next_open_day` meets its contract.
 -- Assumes nothing.
-use borrow.Author.Rules.{rules}
 use Rattle.calendar.proofs.Answers.{open_in_time, next_not_open, next_none, next_found}
 use Rattle.calendar.proofs.calendar_next_open_day.Goals as goal
 

@@ -1,6 +1,5 @@
 -- `calendar::calendar_price_age` meets its contract.
 -- Assumes nothing.
-use borrow.Author.Rules.{rules}
 use Rattle.calendar.proofs.Answers.{open_in_time, quote_not_open, today_not_open, quote_after, age_found}
 use Rattle.calendar.proofs.calendar_price_age.Goals as goal
 

@@ -1,12 +1,9 @@
 -- `calendar::fresh_days` meets its contract: the ages below that of `first` have their first fresh day.
 -- Assumes nothing.
-use Prim.Native.Nat.{◌+◌, ◌-◌, ◌≤◌, ◌<◌}
-use mathlib.Core.Path.{◌≡◌, sym, ◌∙◌}
-use mathlib.Core.Logic.{⊎_elim}
-use native.Mathlib.Omega.{arith}
-use borrow.Author.Rules.{rules}
-use lib.ListN.{length, length-set}
-use Rattle.calendar.proofs.Fresh.{Walked, walked_starts, walked_shut, walked_open, walked_all, walked_most}
+use Prim.Native.Nat.{◌≤◌}
+use mathlib.Core.Path.{◌≡◌}
+use lib.ListN.{length}
+use Rattle.calendar.proofs.Fresh.{Walked}
 use Rattle.calendar.proofs.fresh_days.Given as goal
 
 abbrev pub invariant-loop-first : goal.invariant-loop-first

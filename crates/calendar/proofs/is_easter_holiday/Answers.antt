@@ -1,7 +1,6 @@
 -- `calendar::is_easter_holiday` meets its contract: Easter is in spring.
 -- Assumes nothing.
 use Rattle.calendar.proofs.Holidays.{before_spring, after_spring, good_friday, by_monday}
-use borrow.Author.Rules.{rules}
 use Rattle.calendar.proofs.is_easter_holiday.Goals as goal
 
 pub returns-then-n-lt79 : goal.returns-then-n-lt79

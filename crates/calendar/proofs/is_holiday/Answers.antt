@@ -1,7 +1,6 @@
 -- `calendar::is_holiday` meets its contract.
 -- Assumes nothing.
 use Rattle.calendar.proofs.Holidays.{new_year, at_easter, may_day, christmas_day, by_last}
-use borrow.Author.Rules.{rules}
 use Rattle.calendar.proofs.is_holiday.Goals as goal
 
 pub returns-then-n-eq1 : goal.returns-then-n-eq1

@@ -8,7 +8,6 @@ use Rattle.calendar.specs.Gregorian.{year_of}
 use Rattle.calendar.specs.Target.{open_day}
 use Rattle.calendar.specs.YearDay.{year_day}
 use Rattle.calendar.proofs.Years.{year_le, leap_le, day_le}
-use borrow.Author.Rules.{rules}
 use Rattle.calendar.proofs.is_open.Goals as goal
 
 pub returns-then-day-gt-LAST_DAY : goal.returns-then-day-gt-LAST_DAY

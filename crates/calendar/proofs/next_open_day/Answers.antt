@@ -1,10 +1,8 @@
 -- `calendar::next_open_day` meets its contract: the answer is the least open day from `next` on.
 -- Assumes nothing.
-use Prim.Native.Nat.{◌+◌, ◌-◌, ◌≤◌}
+use Prim.Native.Nat.{◌+◌, ◌-◌}
 use mathlib.Core.Path.{◌≡◌, sym, ◌∙◌}
 use native.Mathlib.Omega.{arith}
-use borrow.Author.Rules.{rules}
-use Rattle.laws.specs.Search.{least}
 use Rattle.laws.proofs.Least.{least_here, least_on, least_end}
 use Rattle.calendar.specs.Target.{open_day, next_open_day}
 use Rattle.calendar.proofs.next_open_day.Goals as goal

@@ -2,7 +2,6 @@
 -- Assumes nothing.
 use native.Mathlib.Omega.{arith}
 use Rattle.calendar.proofs.Years.{start_closed}
-use borrow.Author.Rules.{rules}
 use Rattle.calendar.proofs.start_of.Goals as goal
 
 pub returns : goal.returns

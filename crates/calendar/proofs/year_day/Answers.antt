@@ -6,7 +6,6 @@ use native.Mathlib.Omega.{arith}
 use Rattle.calendar.specs.Gregorian.{start_of, year_of, leap_day, day_of_year}
 use Rattle.calendar.specs.YearDay.{year_day}
 use Rattle.calendar.proofs.Years.{year_le, year_begun, start_next}
-use borrow.Author.Rules.{rules}
 use Rattle.calendar.proofs.year_day.Goals as goal
 use Rattle.calendar.proofs.year_day.Goals.{After-start_of-next}
 

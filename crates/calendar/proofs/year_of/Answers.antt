@@ -4,7 +4,6 @@ use Prim.Native.Nat.{◌+◌, ◌/◌, ◌≤◌}
 use native.Mathlib.Omega.{arith}
 use Rattle.calendar.specs.Gregorian.{start_of}
 use Rattle.calendar.proofs.Years.{start_closed, year_is, year_small}
-use borrow.Author.Rules.{rules}
 use Rattle.calendar.proofs.year_of.Goals as goal
 
 pub returns-then-next-day : goal.returns-then-next-day

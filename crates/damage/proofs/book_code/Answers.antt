@@ -1,7 +1,6 @@
 -- `damage::book_code` meets its contract.
 -- Assumes nothing.
 use Rattle.damage.proofs.Damage.{other_length, opening_passes, sound_passes, unsound_refused}
-use borrow.Author.Rules.{rules}
 use Rattle.damage.proofs.book_code.Goals as goal
 
 pub returns-then-book-ne49152 : goal.returns-then-book-ne49152

@@ -1,7 +1,6 @@
 -- `damage::damage_code` meets its contract.
 -- Assumes nothing.
 use Rattle.damage.proofs.Damage.{by_record}
-use borrow.Author.Rules.{rules}
 use Rattle.damage.proofs.damage_code.Goals as goal
 
 pub returns : goal.returns

@@ -2,7 +2,6 @@
 -- Assumes nothing.
 use mathlib.Core.Path.{refl}
 use Rattle.damage.proofs.Damage.{no_byte, by_byte}
-use borrow.Author.Rules.{rules}
 use Rattle.damage.proofs.is_opening.Goals as goal
 
 pub returns-then-bytes-eq0 : goal.returns-then-bytes-eq0

@@ -1,12 +1,9 @@
 -- `day_change::change_profiles` meets its contract: the profiles below `p` are changed.
 -- Assumes nothing.
 use mathlib.Core.Path.{◌≡◌, sym}
-use Prim.Native.Nat.{◌-◌, ◌≤◌}
 use native.Mathlib.Omega.{arith}
-use lib.ListN.{length}
-use Rattle.book.specs.Layout.{book_length}
 use Rattle.book.specs.State.{state}
-use Rattle.rules.specs.DayChange.{on_each, change_takes_effect, profiles_changed}
+use Rattle.rules.specs.DayChange.{change_takes_effect, profiles_changed}
 use Rattle.day_laws.proofs.Each.{no_turn}
 use Rattle.day_change.specs.Parts.{profile_waits}
 use Rattle.day_rows.proofs.OnEach.{loop_steps}

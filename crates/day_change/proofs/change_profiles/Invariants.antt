@@ -1,17 +1,12 @@
 -- `day_change::change_profiles` meets its contract: the profiles below `p` are changed.
 -- Assumes nothing.
-use mathlib.Core.Path.{◌≡◌, sym}
+use mathlib.Core.Path.{◌≡◌}
 use Prim.Native.Nat.{◌-◌, ◌≤◌}
-use native.Mathlib.Omega.{arith}
 use lib.ListN.{length}
 use Rattle.book.specs.Layout.{book_length}
 use Rattle.book.specs.State.{state}
-use Rattle.rules.specs.DayChange.{on_each, change_takes_effect, profiles_changed}
-use Rattle.day_laws.proofs.Each.{no_turn}
+use Rattle.rules.specs.DayChange.{on_each, change_takes_effect}
 use Rattle.day_change.specs.Parts.{profile_waits}
-use Rattle.day_rows.proofs.OnEach.{loop_steps}
-use Rattle.day_change.proofs.Profiles.{profiles_apart}
-use borrow.Author.Rules.{rules}
 use Rattle.day_change.proofs.change_profiles.Given as goal
 
 abbrev pub invariant-loop-p : goal.invariant-loop-p

@@ -1,7 +1,6 @@
 -- `day_change::copy` meets its contract.
 -- Assumes nothing.
 use Rattle.book.proofs.Images.{state_fits}
-use borrow.Author.Rules.{rules}
 use Rattle.day_change.proofs.copy.Goals as goal
 
 pub set-requires : goal.set-requires

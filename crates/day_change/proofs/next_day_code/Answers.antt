@@ -5,7 +5,6 @@ use Rattle.book.specs.State.{state}
 use Rattle.facts.proofs.Written.{sound_facts}
 use Rattle.facts.proofs.Stock.{today_le}
 use Rattle.day_change.proofs.Returns.{no_next_day, a_next_day}
-use borrow.Author.Rules.{rules}
 use Rattle.day_change.proofs.next_day_code.Goals as goal
 
 pub next_open_day-requires : goal.next_open_day-requires

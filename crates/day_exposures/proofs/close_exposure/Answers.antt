@@ -6,7 +6,6 @@ use Rattle.rules.specs.DayChange.{is_exposure_closed, exposure_closed}
 use Rattle.day_exposures.proofs.Exposures.{entire_back}
 use Rattle.day_laws.proofs.Closed.{closed_used}
 use Rattle.day_rows.proofs.OnEach.{step_taken, step_left}
-use borrow.Author.Rules.{rules}
 use Rattle.day_exposures.proofs.close_exposure.Goals as goal
 
 pub give_position-requires : goal.give_position-requires

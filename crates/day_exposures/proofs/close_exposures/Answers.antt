@@ -1,15 +1,12 @@
 -- `day_exposures::close_exposures` meets its contract: the exposures below `e` are closed, and their amounts summed.
 -- Assumes nothing.
 use mathlib.Core.Path.{◌≡◌, refl, sym}
-use Prim.Native.Nat.{◌-◌, ◌≤◌}
 use native.Mathlib.Omega.{arith}
-use lib.ListN.{length}
 use Rattle.laws.specs.Sum.{sum}
 use Rattle.laws.proofs.Sum.{sum_next, sum_le}
-use Rattle.book.specs.Layout.{book_length}
 use Rattle.book.specs.State.{state}
 use Rattle.book.proofs.Images.{state_fits}
-use Rattle.rules.specs.DayChange.{on_each, is_exposure_closed, exposure_closed, exposures_closed}
+use Rattle.rules.specs.DayChange.{is_exposure_closed, exposure_closed, exposures_closed}
 use Rattle.facts.proofs.Written.{sound_facts}
 use Rattle.facts.specs.Good.{Good}
 use Rattle.day_laws.proofs.Closed.{closing_turned}

@@ -1,7 +1,6 @@
 -- `day_exposures::does_belong` meets its contract.
 -- Assumes nothing.
 use Rattle.day_exposures.proofs.Returns.{no_row, by_name, no_kind, no_pair, by_pair}
-use borrow.Author.Rules.{rules}
 use Rattle.day_exposures.proofs.does_belong.Goals as goal
 
 pub returns-then-get-eq0 : goal.returns-then-get-eq0

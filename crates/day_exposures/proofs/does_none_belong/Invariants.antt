@@ -1,14 +1,10 @@
 -- `day_exposures::does_none_belong` meets its contract: no row below `i` belongs.
 -- Assumes nothing.
-use mathlib.Core.Path.{refl, ap}
-use mathlib.Core.Bool.{Bool, not}
 use Prim.Native.Nat.{◌-◌, ◌≤◌}
-use native.Mathlib.Omega.{arith}
 use Rattle.laws.specs.Search.{all}
-use Rattle.laws.proofs.Least.{Rest, loop_fails, loop_passes, loop_ends}
+use Rattle.laws.proofs.Least.{Rest}
 use Rattle.book.specs.State.{state}
 use Rattle.day_exposures.specs.Parts.{is_not_of}
-use borrow.Author.Rules.{rules}
 use Rattle.day_exposures.proofs.does_none_belong.Given as goal
 
 abbrev pub invariant-loop-i : goal.invariant-loop-i

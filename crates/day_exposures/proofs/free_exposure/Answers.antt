@@ -5,7 +5,6 @@ use Rattle.book.specs.State.{state}
 use Rattle.rules.specs.DayChange.{is_idle, exposure_freed}
 use Rattle.day_exposures.proofs.Exposures.{cleared_exposure, in_exposures}
 use Rattle.day_rows.proofs.OnEach.{step_taken, step_left}
-use borrow.Author.Rules.{rules}
 use Rattle.day_exposures.proofs.free_exposure.Goals as goal
 
 pub clear-requires : goal.clear-requires

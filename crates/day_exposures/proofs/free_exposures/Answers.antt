@@ -1,15 +1,11 @@
 -- `day_exposures::free_exposures` meets its contract: the idle exposures below `e` are freed.
 -- Assumes nothing.
 use mathlib.Core.Path.{◌≡◌, refl, sym}
-use Prim.Native.Nat.{◌-◌, ◌≤◌}
 use native.Mathlib.Omega.{arith}
-use lib.ListN.{length}
-use Rattle.book.specs.Layout.{book_length}
 use Rattle.book.specs.State.{state}
-use Rattle.rules.specs.DayChange.{on_each, is_idle, exposure_freed, exposures_freed}
+use Rattle.rules.specs.DayChange.{is_idle, exposure_freed, exposures_freed}
 use Rattle.day_laws.proofs.Each.{no_turn}
 use Rattle.day_rows.proofs.OnEach.{loop_steps}
-use Rattle.day_exposures.specs.Parts.{Marked}
 use Rattle.day_exposures.proofs.Exposures.{freed_apart}
 use Rattle.day_exposures.proofs.Marks.{later_marked}
 use borrow.Author.Rules.{rules}

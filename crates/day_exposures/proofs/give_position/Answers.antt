@@ -1,12 +1,9 @@
 -- `day_exposures::give_position` meets its contract: the securities below `i` are given back.
 -- Assumes nothing.
 use mathlib.Core.Path.{◌≡◌, sym, ◌∙◌}
-use Prim.Native.Nat.{◌-◌, ◌≤◌, ◌<◌}
+use Prim.Native.Nat.{◌<◌}
 use native.Mathlib.Omega.{arith}
-use lib.ListN.{length}
-use Rattle.book.specs.Layout.{book_length}
 use Rattle.book.specs.State.{state}
-use Rattle.rules.specs.DayChange.{on_each}
 use Rattle.day_laws.proofs.Each.{no_turn}
 use Rattle.day_rows.proofs.OnEach.{loop_steps}
 use Rattle.day_exposures.specs.Parts.{is_held, security_back}

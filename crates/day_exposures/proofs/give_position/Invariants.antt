@@ -1,17 +1,12 @@
 -- `day_exposures::give_position` meets its contract: the securities below `i` are given back.
 -- Assumes nothing.
-use mathlib.Core.Path.{◌≡◌, sym, ◌∙◌}
-use Prim.Native.Nat.{◌-◌, ◌≤◌, ◌<◌}
-use native.Mathlib.Omega.{arith}
+use mathlib.Core.Path.{◌≡◌}
+use Prim.Native.Nat.{◌-◌, ◌≤◌}
 use lib.ListN.{length}
 use Rattle.book.specs.Layout.{book_length}
 use Rattle.book.specs.State.{state}
 use Rattle.rules.specs.DayChange.{on_each}
-use Rattle.day_laws.proofs.Each.{no_turn}
-use Rattle.day_rows.proofs.OnEach.{loop_steps}
 use Rattle.day_exposures.specs.Parts.{is_held, security_back}
-use Rattle.day_exposures.proofs.Back.{held_apart, position_ahead, account_ahead, position_back}
-use borrow.Author.Rules.{rules}
 use Rattle.day_exposures.proofs.give_position.Given as goal
 
 abbrev pub invariant-loop-i : goal.invariant-loop-i

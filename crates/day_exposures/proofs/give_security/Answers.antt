@@ -1,7 +1,6 @@
 -- `day_exposures::give_security` meets its contract.
 -- Assumes nothing.
 use Rattle.day_exposures.proofs.Back.{security_back_lem, security_left}
-use borrow.Author.Rules.{rules}
 use Rattle.day_exposures.proofs.give_security.Goals as goal
 
 pub returns-then-nominal-ne0 : goal.returns-then-nominal-ne0

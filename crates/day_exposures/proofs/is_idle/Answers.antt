@@ -2,7 +2,6 @@
 -- Assumes nothing.
 use Rattle.day_exposures.proofs.Marks.{idle_unmarked}
 use Rattle.day_exposures.proofs.Returns.{idle_unused, idle_amount, by_rows}
-use borrow.Author.Rules.{rules}
 use Rattle.day_exposures.proofs.is_idle.Goals as goal
 
 pub returns-then-get-ne1 : goal.returns-then-get-ne1

@@ -1,11 +1,8 @@
 -- `day_exposures::mark_rows` meets its contract: the exposures of the rows below `i` are marked.
 -- Assumes nothing.
 use Prim.Native.Nat.{◌-◌, ◌≤◌}
-use native.Mathlib.Omega.{arith}
 use Rattle.book.specs.State.{state}
 use Rattle.day_exposures.specs.Parts.{Marked}
-use Rattle.day_exposures.proofs.Marks.{marked_all, marked_none, marked_next, marked_end}
-use borrow.Author.Rules.{rules}
 use Rattle.day_exposures.proofs.mark_rows.Given as goal
 
 abbrev pub invariant-loop-i : goal.invariant-loop-i

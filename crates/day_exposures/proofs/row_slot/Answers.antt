@@ -1,7 +1,6 @@
 -- `day_exposures::row_slot` meets its contract.
 -- Assumes nothing.
 use Rattle.day_exposures.proofs.Marks.{unused_slot, unnamed_slot, named_slot, fop_slot}
-use borrow.Author.Rules.{rules}
 use Rattle.day_exposures.proofs.row_slot.Goals as goal
 
 pub returns-then-get-eq0 : goal.returns-then-get-eq0

@@ -1,13 +1,11 @@
 -- `day_rows::clear` meets its contract: the row holds nothing in the tables below `from + k`.
 -- Assumes nothing.
 use mathlib.Core.Path.{◌≡◌, sym, ap, ◌∙◌}
-use Prim.Native.Nat.{◌+◌, ◌-◌, ◌≤◌}
+use Prim.Native.Nat.{◌+◌}
 use native.Mathlib.Nat.{one-le-pow}
 use native.Mathlib.Omega.{arith}
-use lib.ListN.{length}
-use Rattle.book.specs.Layout.{book_length, width_of}
+use Rattle.book.specs.Layout.{width_of}
 use Rattle.book.specs.State.{State, state, put}
-use Rattle.day_rows.specs.Parts.{cleared}
 use Rattle.day_rows.proofs.Rows.{cleared_none, cleared_next}
 use borrow.Author.Rules.{rules}
 use Rattle.day_rows.proofs.clear.Goals as goal

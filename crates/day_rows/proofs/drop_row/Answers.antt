@@ -6,7 +6,6 @@ use Rattle.rules.specs.DayChange.{row_dropped}
 use Rattle.day_rows.specs.Parts.{drops}
 use Rattle.day_rows.proofs.OnEach.{step_taken, step_left}
 use Rattle.day_rows.proofs.Rows.{in_requests, cleared_row}
-use borrow.Author.Rules.{rules}
 use Rattle.day_rows.proofs.drop_row.Goals as goal
 
 pub clear-requires : goal.clear-requires
@@ -22,8 +21,7 @@ returns-then-is_dropped c =
     )
 
 pub returns-else-is_dropped : goal.returns-else-is_dropped
-returns-else-is_dropped c =
-    (
-      rw (sym c.is_dropped.ensures ∙ c.if-is_dropped.false),
-      step_left (drops c.args.pass) row_dropped (state c.args.book.now) c.args.i c.is_dropped.ensures c.if-is_dropped.false,
-    )
+returns-else-is_dropped c = (
+  rw (sym c.is_dropped.ensures ∙ c.if-is_dropped.false),
+  step_left (drops c.args.pass) row_dropped (state c.args.book.now) c.args.i c.is_dropped.ensures c.if-is_dropped.false,
+)

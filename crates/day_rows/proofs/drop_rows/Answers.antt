@@ -1,16 +1,13 @@
 -- `day_rows::drop_rows` meets its contract: the rows below `i` are dropped and counted, and the rest of the count is to come.
 -- Assumes nothing.
 use mathlib.Core.Path.{◌≡◌, sym}
-use Prim.Native.Nat.{◌+◌, ◌-◌, ◌≤◌}
 use native.Mathlib.Nat.{zero-add}
 use native.Mathlib.Omega.{arith}
-use lib.ListN.{length}
 use Rattle.laws.specs.Search.{count}
 use Rattle.laws.proofs.Least.{count_le, count_end}
-use Rattle.book.specs.Layout.{book_length}
 use Rattle.book.specs.State.{state}
 use Rattle.facts.proofs.Written.{sound_facts}
-use Rattle.rules.specs.DayChange.{row_dropped, on_each, rows_dropped}
+use Rattle.rules.specs.DayChange.{row_dropped, rows_dropped}
 use Rattle.day_laws.proofs.Each.{no_turn}
 use Rattle.day_rows.specs.Parts.{drops}
 use Rattle.day_rows.proofs.OnEach.{loop_steps, loop_counts}

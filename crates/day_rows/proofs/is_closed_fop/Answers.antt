@@ -1,7 +1,6 @@
 -- `day_rows::is_closed_fop` meets its contract.
 -- Assumes nothing.
 use Rattle.day_rows.proofs.Returns.{fop_open, no_fop, no_pair, by_number}
-use borrow.Author.Rules.{rules}
 use Rattle.day_rows.proofs.is_closed_fop.Goals as goal
 
 pub returns-then-not-is_reached : goal.returns-then-not-is_reached

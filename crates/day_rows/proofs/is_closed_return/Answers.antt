@@ -3,7 +3,6 @@
 use mathlib.Core.Path.{sym, ◌∙◌}
 use native.Mathlib.Omega.{arith}
 use Rattle.day_rows.proofs.Returns.{no_return, return_unused, by_exposure}
-use borrow.Author.Rules.{rules}
 use Rattle.day_rows.proofs.is_closed_return.Goals as goal
 
 pub returns-then-get-ne7 : goal.returns-then-get-ne7

@@ -1,7 +1,6 @@
 -- `day_rows::is_done` meets its contract.
 -- Assumes nothing.
 use Rattle.day_rows.proofs.Returns.{done_unused, done_whole, done_ended, done_not, by_settlement}
-use borrow.Author.Rules.{rules}
 use Rattle.day_rows.proofs.is_done.Goals as goal
 
 pub returns-then-get-eq0 : goal.returns-then-get-eq0

@@ -1,6 +1,5 @@
 -- `day_rows::is_dropped` meets its contract.
 -- Assumes nothing.
-use borrow.Author.Rules.{rules}
 use Rattle.day_rows.proofs.is_dropped.Goals as goal
 
 pub returns-in-Done : goal.returns-in-Done

@@ -1,7 +1,6 @@
 -- `day_rows::is_exposure_closed` meets its contract.
 -- Assumes nothing.
 use Rattle.day_rows.proofs.Returns.{exposure_unused, by_reached}
-use borrow.Author.Rules.{rules}
 use Rattle.day_rows.proofs.is_exposure_closed.Goals as goal
 
 pub returns-then-get-ne1 : goal.returns-then-get-ne1

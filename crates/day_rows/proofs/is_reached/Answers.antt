@@ -1,7 +1,6 @@
 -- `day_rows::is_reached` meets its contract.
 -- Assumes nothing.
 use Rattle.day_rows.proofs.Returns.{never_reached, by_day}
-use borrow.Author.Rules.{rules}
 use Rattle.day_rows.proofs.is_reached.Goals as goal
 
 pub returns-then-closing-eq0 : goal.returns-then-closing-eq0

@@ -1,12 +1,8 @@
 -- `due_pairs::collect` meets its contract: the keys of the rows below `i` are collected.
 -- Assumes nothing.
 use mathlib.Core.Path.{◌≡◌}
-use Prim.Native.Nat.{◌-◌, ◌≤◌}
 use native.Mathlib.Omega.{arith}
-use Rattle.book.specs.State.{state}
-use Rattle.due_pairs.specs.Due.{Collected}
 use Rattle.due_pairs.proofs.Keys.{none_noted}
-use borrow.Author.Rules.{rules}
 use Rattle.due_pairs.proofs.collect.Goals as goal
 
 pub loop-i-init : goal.loop-i-init

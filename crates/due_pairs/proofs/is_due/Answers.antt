@@ -1,7 +1,6 @@
 -- `due_pairs::is_due` meets its contract.
 -- Assumes nothing.
 use Rattle.due_pairs.proofs.Returns.{other_kind, same_kind}
-use borrow.Author.Rules.{rules}
 use Rattle.due_pairs.proofs.is_due.Goals as goal
 
 pub returns-then-get-kind : goal.returns-then-get-kind

@@ -1,12 +1,8 @@
 -- `due_pairs::next_key` meets its contract: the least of the first `j` keys is found.
 -- Assumes nothing.
 use mathlib.Core.Path.{◌≡◌}
-use Prim.Native.Nat.{◌-◌, ◌≤◌}
 use native.Mathlib.Omega.{arith}
-use lib.ListN.{take}
-use Rattle.due_pairs.specs.Due.{no_key, least_from}
 use Rattle.due_pairs.proofs.Keys.{least_start, least_next}
-use borrow.Author.Rules.{rules}
 use Rattle.due_pairs.proofs.next_key.Goals as goal
 
 pub loop-j-init : goal.loop-j-init

@@ -2,11 +2,8 @@
 -- Assumes nothing.
 use mathlib.Core.Path.{◌≡◌}
 use Prim.Native.Nat.{◌-◌, ◌≤◌}
-use native.Mathlib.Omega.{arith}
 use lib.ListN.{take}
 use Rattle.due_pairs.specs.Due.{no_key, least_from}
-use Rattle.due_pairs.proofs.Keys.{least_start, least_next}
-use borrow.Author.Rules.{rules}
 use Rattle.due_pairs.proofs.next_key.Given as goal
 
 abbrev pub invariant-loop-j : goal.invariant-loop-j

@@ -5,7 +5,6 @@ use native.Mathlib.Omega.{arith}
 use Prim.Native.Nat.{◌<◌}
 use Rattle.book.specs.State.{state}
 use Rattle.due_pairs.proofs.Keys.{due_small, not_noted, noted}
-use borrow.Author.Rules.{rules}
 use borrow.Author.Tests.{not-false}
 use Rattle.due_pairs.proofs.note_due.Goals as goal
 use Rattle.due_pairs.proofs.note_due.Goals.{After-order_of}

@@ -5,7 +5,6 @@ use Rattle.book.proofs.Images.{state_fits}
 use Rattle.book.specs.State.{state}
 use Rattle.due_pairs.proofs.Returns.{Dated}
 use Rattle.book.specs.Layout.{numbers, settlements}
-use borrow.Author.Rules.{rules}
 use Rattle.due_pairs.proofs.order_of.Goals as goal
 use Rattle.due_pairs.proofs.order_of.Goals.{After-shared_slice_known-1}
 

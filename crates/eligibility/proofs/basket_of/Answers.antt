@@ -1,7 +1,6 @@
 -- `eligibility::basket_of` meets its contract.
 -- Assumes nothing.
 use Rattle.eligibility.proofs.Baskets.{basket_read}
-use borrow.Author.Rules.{rules}
 use Rattle.eligibility.proofs.basket_of.Goals as goal
 
 pub returns : goal.returns

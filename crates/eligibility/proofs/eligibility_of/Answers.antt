@@ -2,7 +2,6 @@
 -- Assumes nothing.
 use Rattle.book.specs.State.{state}
 use Rattle.eligibility.proofs.Fresh.{fresh_for}
-use borrow.Author.Rules.{rules}
 use Rattle.eligibility.proofs.eligibility_of.Goals as goal
 
 pub returns : goal.returns

@@ -1,15 +1,11 @@
 -- `eligibility::fresh_since` meets its contract: the baskets below `b` have their day.
 -- Assumes nothing.
 use mathlib.Core.Path.{◌≡◌}
-use Prim.Native.Nat.{◌-◌, ◌≤◌, ◌<◌}
-use native.Mathlib.Omega.{arith}
+use Prim.Native.Nat.{◌-◌, ◌≤◌}
 use lib.ListN.{get_or}
 use Rattle.laws.specs.Filled.{filled}
-use Rattle.laws.proofs.Filled.{filled_first, filled_next}
 use Rattle.book.specs.Layout.{greatest_ages}
 use Rattle.book.specs.State.{state}
-use Rattle.eligibility.proofs.Fresh.{baskets_fresh}
-use borrow.Author.Rules.{rules}
 use Rattle.eligibility.proofs.fresh_since.Given as goal
 
 abbrev pub invariant-loop-b : goal.invariant-loop-b

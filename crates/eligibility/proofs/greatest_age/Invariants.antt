@@ -1,12 +1,8 @@
 -- `eligibility::greatest_age` meets its contract: no basket below `b` takes an older price.
 -- Assumes nothing.
-use mathlib.Core.Path.{◌≡◌}
 use Prim.Native.Nat.{◌-◌, ◌≤◌}
-use native.Mathlib.Omega.{arith}
 use Rattle.book.specs.State.{state}
 use Rattle.eligibility.specs.Fresh.{Aged}
-use Rattle.eligibility.proofs.Fresh.{aged_first, aged_next}
-use borrow.Author.Rules.{rules}
 use Rattle.eligibility.proofs.greatest_age.Given as goal
 
 abbrev pub invariant-loop-b : goal.invariant-loop-b

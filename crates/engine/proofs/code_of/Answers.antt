@@ -4,7 +4,6 @@ use mathlib.Core.Path.{◌≡◌}
 use native.Mathlib.Omega.{arith}
 use Rattle.book.specs.State.{state}
 use Rattle.engine.proofs.ByKind.{by_code, no_code, legal_kind, sound_kind_lem}
-use borrow.Author.Rules.{rules}
 use Rattle.engine.proofs.code_of.Goals as goal
 
 pub price_code-requires : goal.price_code-requires

@@ -3,7 +3,6 @@
 use Prim.Native.Nat.{ℕ, ◌<◌}
 use lib.ListN.{get_or}
 use Rattle.engine.proofs.Returns.{damage_refused, reader_refuses, rules_refuse, taken_record, accepted_record, accepted_book, accepted_answer}
-use borrow.Author.Rules.{rules}
 use Rattle.engine.proofs.engine_call.Goals as goal
 
 pub returns-then-damaged-ne0 : goal.returns-then-damaged-ne0

@@ -3,7 +3,6 @@
 use mathlib.Core.Path.{◌≡◌}
 use native.Mathlib.Omega.{arith}
 use Rattle.engine.proofs.ByKind.{by_state, deposit_room, withdrawal_holds, legal_kind, no_rule_kind}
-use borrow.Author.Rules.{rules}
 use Rattle.engine.proofs.set_up.Goals as goal
 
 pub open-requires : goal.open-requires

@@ -1,12 +1,8 @@
 -- `exposure_search::exposure_with` meets its contract: none below `e` has the key.
 -- Assumes nothing.
 use mathlib.Core.Path.{refl}
-use Prim.Native.Nat.{◌-◌, ◌≤◌}
 use native.Mathlib.Omega.{arith}
-use Rattle.laws.proofs.Tests.{Ahead, found, onward, nowhere}
-use Rattle.book.specs.State.{state}
-use Rattle.rules.specs.Requests.{has_key, exposure_with}
-use borrow.Author.Rules.{rules}
+use Rattle.laws.proofs.Tests.{found, onward, nowhere}
 use Rattle.exposure_search.proofs.exposure_with.Goals as goal
 
 pub loop-e-init : goal.loop-e-init

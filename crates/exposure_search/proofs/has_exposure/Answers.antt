@@ -1,7 +1,6 @@
 -- `exposure_search::has_exposure` meets its contract.
 -- Assumes nothing.
 use Rattle.exposure_search.proofs.Keys.{by_hint, by_search}
-use borrow.Author.Rules.{rules}
 use Rattle.exposure_search.proofs.has_exposure.Goals as goal
 
 pub returns-then-has_key : goal.returns-then-has_key

@@ -1,7 +1,6 @@
 -- `exposure_search::has_key` meets its contract.
 -- Assumes nothing.
 use Rattle.laws.proofs.Tests.{fails, passes, last}
-use borrow.Author.Rules.{rules}
 use Rattle.exposure_search.proofs.has_key.Goals as goal
 
 pub returns-then-get-ne1 : goal.returns-then-get-ne1

@@ -1,7 +1,6 @@
 -- `exposure_search::put_hint` meets its contract.
 -- Assumes nothing.
 use Rattle.exposure_search.proofs.Hints.{hint_put, hint_left}
-use borrow.Author.Rules.{rules}
 use Rattle.exposure_search.proofs.put_hint.Goals as goal
 
 pub returns-then-get-eq1 : goal.returns-then-get-eq1

@@ -1,12 +1,8 @@
 -- `exposure_search::put_hints` meets its contract: the hints are those of the exposures below `e`.
 -- Assumes nothing.
 use mathlib.Core.Path.{◌≡◌}
-use Prim.Native.Nat.{◌-◌, ◌≤◌}
 use native.Mathlib.Omega.{arith}
-use Rattle.book.specs.State.{state}
-use Rattle.exposure_search.specs.Slots.{with_hints}
 use Rattle.exposure_search.proofs.Hints.{none_put, one_more_put}
-use borrow.Author.Rules.{rules}
 use Rattle.exposure_search.proofs.put_hints.Goals as goal
 
 pub loop-e-init : goal.loop-e-init

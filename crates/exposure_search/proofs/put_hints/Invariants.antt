@@ -2,11 +2,8 @@
 -- Assumes nothing.
 use mathlib.Core.Path.{◌≡◌}
 use Prim.Native.Nat.{◌-◌, ◌≤◌}
-use native.Mathlib.Omega.{arith}
 use Rattle.book.specs.State.{state}
 use Rattle.exposure_search.specs.Slots.{with_hints}
-use Rattle.exposure_search.proofs.Hints.{none_put, one_more_put}
-use borrow.Author.Rules.{rules}
 use Rattle.exposure_search.proofs.put_hints.Given as goal
 
 abbrev pub invariant-loop-e : goal.invariant-loop-e

@@ -1,11 +1,9 @@
 -- `line_text::put_digits` meets its contract: after i digits, the first i are put.
 -- Assumes nothing.
 use mathlib.Core.Path.{◌≡◌, refl}
-use Prim.Native.Nat.{◌-◌, ◌≤◌}
 use native.Mathlib.Omega.{arith}
-use lib.ListN.{length, take, length-set}
+use lib.ListN.{length, length-set}
 use borrow.Author.Rules.{rules}
-use Rattle.line_text.specs.Buffer.{with_text}
 use Rattle.line_text.proofs.Texts.{text_none, text_digit}
 use Rattle.line_text.proofs.put_digits.Goals as goal
 

@@ -1,12 +1,9 @@
 -- `line_text::put_digits` meets its contract: after i digits, the first i are put.
 -- Assumes nothing.
-use mathlib.Core.Path.{◌≡◌, refl}
+use mathlib.Core.Path.{◌≡◌}
 use Prim.Native.Nat.{◌-◌, ◌≤◌}
-use native.Mathlib.Omega.{arith}
-use lib.ListN.{length, take, length-set}
-use borrow.Author.Rules.{rules}
+use lib.ListN.{length, take}
 use Rattle.line_text.specs.Buffer.{with_text}
-use Rattle.line_text.proofs.Texts.{text_none, text_digit}
 use Rattle.line_text.proofs.put_digits.Given as goal
 
 abbrev pub invariant-loop-i : goal.invariant-loop-i

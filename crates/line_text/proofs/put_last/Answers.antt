@@ -1,7 +1,6 @@
 -- `line_text::put_last` meets its contract.
 -- Assumes nothing.
 use Rattle.line_text.proofs.Texts.{none_left, last_put}
-use borrow.Author.Rules.{rules}
 use Rattle.line_text.proofs.put_last.Goals as goal
 
 pub returns-then-rest-eq0 : goal.returns-then-rest-eq0

@@ -1,6 +1,5 @@
 -- `line_text::put_line` meets its contract: six numbers, each behind the one before.
 -- Assumes nothing.
-use borrow.Author.Rules.{rules}
 use Rattle.line_text.specs.Buffer.{answer_of}
 use Rattle.line_text.proofs.Texts.{line_put}
 use Rattle.line_text.proofs.put_line.Goals as goal

@@ -1,6 +1,5 @@
 -- `line_text::put_number` meets its contract: the digits are the numeral, and the byte stands behind them.
 -- Assumes nothing.
-use borrow.Author.Rules.{rules}
 use Rattle.line_text.proofs.Texts.{number_put}
 use Rattle.line_text.proofs.put_number.Goals as goal
 

@@ -1,7 +1,6 @@
 -- `lines::first_record` meets its contract.
 -- Assumes nothing.
 use native.Mathlib.Omega.{arith}
-use borrow.Author.Rules.{rules}
 use Rattle.lines.proofs.Cuts.{no_record, whole_record, cut_record}
 use Rattle.lines.proofs.first_record.Goals as goal
 

@@ -1,6 +1,5 @@
 -- `lines::is_awaited` meets its contract.
 -- Assumes nothing.
-use borrow.Author.Rules.{rules}
 use Rattle.lines.proofs.Cuts.{none_awaited, kind_awaited}
 use Rattle.lines.proofs.is_awaited.Goals as goal
 

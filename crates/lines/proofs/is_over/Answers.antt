@@ -1,6 +1,5 @@
 -- `lines::is_over` meets its contract.
 -- Assumes nothing.
-use borrow.Author.Rules.{rules}
 use Rattle.lines.proofs.Cuts.{read_failed, read_none, read_some}
 use Rattle.lines.proofs.is_over.Goals as goal
 

@@ -1,7 +1,6 @@
 -- `lines::length_of` meets its contract.
 -- Assumes nothing.
 use native.Mathlib.Omega.{arith}
-use borrow.Author.Rules.{rules}
 use Rattle.lines.proofs.Cuts.{known_length, unknown_length}
 use Rattle.lines.proofs.length_of.Goals as goal
 

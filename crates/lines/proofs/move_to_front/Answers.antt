@@ -1,10 +1,9 @@
 -- `lines::move_to_front` meets its contract: after i bytes, the first i are moved.
 -- Assumes nothing.
 use mathlib.Core.Path.{◌≡◌, ◌∙◌}
-use Prim.Native.Nat.{◌-◌, ◌≤◌}
+use Prim.Native.Nat.{◌-◌}
 use native.Mathlib.Omega.{arith}
-use borrow.Author.Rules.{rules}
-use Rattle.lines.proofs.Moving.{Moved, moved_none, moved_next, part_between}
+use Rattle.lines.proofs.Moving.{moved_none, moved_next, part_between}
 use Rattle.lines.proofs.move_to_front.Goals as goal
 
 pub loop-i-init : goal.loop-i-init

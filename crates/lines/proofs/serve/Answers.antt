@@ -1,13 +1,12 @@
 -- `lines::serve` meets its contract: what is done so far and what the rest leaves are what the whole piece leaves.
 -- Assumes nothing.
-use mathlib.Core.Path.{◌≡◌, refl, sym, ap, ◌∙◌}
+use mathlib.Core.Path.{refl, sym, ap, ◌∙◌}
 use Prim.Native.Nat.{ℕ, ◌+◌, ◌-◌}
 use native.Mathlib.Nat.{add-sub_cancel_left}
 use native.Mathlib.Omega.{arith}
-use lib.ListN.{length, take, drop}
-use borrow.Author.Rules.{rules}
+use lib.ListN.{take, drop}
 use Rattle.lines.specs.Program.{first_record}
-use Rattle.lines.proofs.Serving.{Walk, walk_begins, walk_on, walk_ends, rest_of}
+use Rattle.lines.proofs.Serving.{walk_begins, walk_on, walk_ends, rest_of}
 use Rattle.lines.proofs.serve.Goals as goal
 
 pub loop-p-init : goal.loop-p-init

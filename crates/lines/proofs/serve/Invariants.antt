@@ -1,13 +1,9 @@
 -- `lines::serve` meets its contract: what is done so far and what the rest leaves are what the whole piece leaves.
 -- Assumes nothing.
-use mathlib.Core.Path.{◌≡◌, refl, sym, ap, ◌∙◌}
-use Prim.Native.Nat.{ℕ, ◌+◌, ◌-◌}
-use native.Mathlib.Nat.{add-sub_cancel_left}
-use native.Mathlib.Omega.{arith}
-use lib.ListN.{length, take, drop}
-use borrow.Author.Rules.{rules}
-use Rattle.lines.specs.Program.{first_record}
-use Rattle.lines.proofs.Serving.{Walk, walk_begins, walk_on, walk_ends, rest_of}
+use mathlib.Core.Path.{◌≡◌}
+use Prim.Native.Nat.{◌-◌}
+use lib.ListN.{length}
+use Rattle.lines.proofs.Serving.{Walk}
 use Rattle.lines.proofs.serve.Given as goal
 
 abbrev pub invariant-loop-p : goal.invariant-loop-p

@@ -2,7 +2,6 @@
 -- Assumes nothing.
 use mathlib.Core.Path.{refl}
 use lib.ListN.{get_or}
-use borrow.Author.Rules.{rules}
 use Rattle.rules.specs.Call.{call_answer}
 use Rattle.lines.proofs.Answers.{answer_put}
 use Rattle.lines.proofs.serve_record.Goals as goal

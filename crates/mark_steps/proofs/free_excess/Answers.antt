@@ -6,7 +6,6 @@ use Rattle.book.specs.State.{state}
 use Rattle.rules.specs.Marking.{excess_back}
 use Rattle.mark_steps.proofs.Steps.{free_empty, unused_step, excess_gives, excess_step, excess_missing}
 use Rattle.mark_steps.proofs.Values.{missing_unused}
-use borrow.Author.Rules.{rules}
 use Rattle.mark_steps.proofs.free_excess.Goals as goal
 
 pub returns-then-get-ne1 : goal.returns-then-get-ne1
@@ -22,8 +21,7 @@ give_any_back-moved-requires c =
     (c.requires.0.long, excess_gives c.requires.0 c.requires.1 (λ i. (c.slice_known-1.given i).fits) c.get.ensures c.if-get-ne1.false c.row_at-position.ensures c.get-amount.ensures c.free-freed.ensures, free_empty _ _ _ c.free-freed.ensures)
 
 pub returns : goal.returns
-returns c =
-    (
-      excess_step c.requires.0 c.requires.1 (λ i. (c.slice_known-1.given i).fits) c.get.ensures c.if-get-ne1.false c.row_at-position.ensures c.get-amount.ensures c.free-freed.ensures (c.give_any_back-moved.auto.book ∙ c.requires.0.long) c.give_any_back-moved.ensures,
-      excess_missing c.requires.0 c.requires.1 (λ i. (c.slice_known-1.given i).fits) c.get.ensures c.if-get-ne1.false c.row_at-position.ensures c.get-amount.ensures c.free-freed.ensures c.give_any_back-moved.ensures.0 c.missing_from.ensures,
-    )
+returns c = (
+  excess_step c.requires.0 c.requires.1 (λ i. (c.slice_known-1.given i).fits) c.get.ensures c.if-get-ne1.false c.row_at-position.ensures c.get-amount.ensures c.free-freed.ensures (c.give_any_back-moved.auto.book ∙ c.requires.0.long) c.give_any_back-moved.ensures,
+  excess_missing c.requires.0 c.requires.1 (λ i. (c.slice_known-1.given i).fits) c.get.ensures c.if-get-ne1.false c.row_at-position.ensures c.get-amount.ensures c.free-freed.ensures c.give_any_back-moved.ensures.0 c.missing_from.ensures,
+)

@@ -4,7 +4,6 @@ use mathlib.Core.Path.{sym}
 use borrow.Author.Tests.{eq-eqb, ne_eqb}
 use Rattle.book.specs.State.{state}
 use Rattle.mark_steps.proofs.Moving.{none_back, some_back}
-use borrow.Author.Rules.{rules}
 use Rattle.mark_steps.proofs.give_any_back.Goals as goal
 
 pub returns-then-count-eq0 : goal.returns-then-count-eq0

@@ -4,7 +4,6 @@ use mathlib.Core.Path.{refl, ◌∙◌}
 use Rattle.rules.specs.Marking.{ineligible_back}
 use Rattle.mark_steps.proofs.Steps.{unused_step, ineligible_gives, stays_step, gives_step}
 use Rattle.bonds.proofs.Rows.{bounded, basket_below}
-use borrow.Author.Rules.{rules}
 use Rattle.mark_steps.proofs.give_ineligible.Goals as goal
 
 pub returns-then-get-ne1 : goal.returns-then-get-ne1

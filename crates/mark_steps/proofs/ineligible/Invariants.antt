@@ -1,11 +1,8 @@
 -- `mark_steps::ineligible` meets its contract: the securities below `i` are looked at.
 -- Assumes nothing.
-use borrow.Author.Rules.{rules}
 use mathlib.Core.Path.{◌≡◌}
 use Prim.Native.Nat.{◌-◌, ◌≤◌}
-use native.Mathlib.Omega.{arith}
 use Rattle.laws.specs.Filled.{filled}
-use Rattle.laws.proofs.Filled.{filled_first, filled_next}
 use Rattle.mark_steps.specs.Stepped.{ineligible_in}
 use Rattle.mark_steps.proofs.ineligible.Given as goal
 

@@ -1,7 +1,6 @@
 -- `mark_steps::ineligible_nominal` meets its contract.
 -- Assumes nothing.
 use Rattle.mark_steps.proofs.Returns.{no_nominal, stays, goes}
-use borrow.Author.Rules.{rules}
 use Rattle.mark_steps.proofs.ineligible_nominal.Goals as goal
 
 pub returns-then-nominal-eq0 : goal.returns-then-nominal-eq0

@@ -1,14 +1,8 @@
 -- `mark_steps::may_all_stay` meets its contract: those below `i` may stay.
 -- Assumes nothing.
 use mathlib.Core.Path.{refl}
-use Prim.Native.Nat.{◌-◌, ◌≤◌}
 use native.Mathlib.Omega.{arith}
-use borrow.Author.Rules.{rules}
-use Rattle.laws.specs.Search.{all}
-use Rattle.laws.proofs.Least.{Rest, loop_fails, loop_passes, loop_ends}
-use Rattle.book.specs.State.{state}
-use Rattle.rules.specs.Stock.{position_of}
-use Rattle.mark_steps.specs.Stepped.{may_stay}
+use Rattle.laws.proofs.Least.{loop_fails, loop_passes, loop_ends}
 use Rattle.mark_steps.proofs.may_all_stay.Goals as goal
 
 pub loop-i-init : goal.loop-i-init

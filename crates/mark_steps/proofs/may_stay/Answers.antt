@@ -1,6 +1,5 @@
 -- `mark_steps::may_stay` meets its contract.
 -- Assumes nothing.
-use borrow.Author.Rules.{rules}
 use Rattle.mark_steps.proofs.Returns.{none_held, some_held}
 use Rattle.mark_steps.proofs.may_stay.Goals as goal
 

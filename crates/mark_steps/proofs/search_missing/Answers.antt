@@ -10,7 +10,6 @@ use Rattle.mark_steps.specs.Stepped.{Stepped}
 use Rattle.mark_steps.proofs.Moving.{none_pledged, some_pledged}
 use Rattle.mark_steps.proofs.Steps.{pick_empty, covered_step, found_pledges, search_step, search_missing_is}
 use Rattle.mark_steps.proofs.Values.{lacking_used}
-use borrow.Author.Rules.{rules}
 use Rattle.mark_steps.proofs.search_missing.Goals as goal
 use Rattle.mark_steps.proofs.search_missing.Goals.{After-pledge}
 
@@ -31,12 +30,11 @@ pick_for-found-requires c =
     (m.long, good_pickable _ _ (good_of m (λ i. (c.slice_known-1.given i).fits)) c.requires.1 (lacking_used (state c.args.book.now) c.args.e c.requires.2 c.if-missing-eq0.false), m.securities, c.requires.3)
 
 pub returns-then-found-eq0 : goal.returns-then-found-eq0
-returns-then-found-eq0 c =
-    (
-      search_step c.requires.0 c.requires.1 (λ i. (c.slice_known-1.given i).fits) c.requires.2 c.if-missing-eq0.false c.pick_for-found.ensures c.requires.0.long
-          (none_pledged (state c.args.book.now) c.args.e c.pick_for-found.result.nominals (sym (pick_empty _ _ _ _ c.pick_for-found.ensures)) (eq-eqb c.pick_for-found.result.count 0 c.if-found-eq0.true)),
-      c.requires.2,
-    )
+returns-then-found-eq0 c = (
+  search_step c.requires.0 c.requires.1 (λ i. (c.slice_known-1.given i).fits) c.requires.2 c.if-missing-eq0.false c.pick_for-found.ensures c.requires.0.long
+      (none_pledged (state c.args.book.now) c.args.e c.pick_for-found.result.nominals (sym (pick_empty _ _ _ _ c.pick_for-found.ensures)) (eq-eqb c.pick_for-found.result.count 0 c.if-found-eq0.true)),
+  c.requires.2,
+)
 
 pub pledge-requires : goal.pledge-requires
 pledge-requires c =

@@ -1,20 +1,15 @@
 -- `marking::free_all` meets its contract: the exposures below `e` are freed.
 -- Assumes nothing.
 use mathlib.Core.Path.{◌≡◌}
-use mathlib.Core.Bool.{Bool}
-use Prim.Native.Nat.{ℕ, ◌-◌, ◌≤◌}
+use Prim.Native.Nat.{◌≤◌}
 use native.Mathlib.Omega.{arith}
 use lib.ListN.{get_or}
-use Rattle.laws.specs.Filled.{filled}
-use Rattle.laws.specs.Sum.{sum}
 use Rattle.laws.proofs.Filled.{filled_first, filled_next}
-use Rattle.book.specs.State.{State, state}
+use Rattle.book.specs.State.{state}
 use Rattle.mark_steps.proofs.Passable.{second_pass}
-use Rattle.rules.specs.Marking.{on_exposures, moved, excess_back, missing_of}
 use Rattle.marking.specs.Flags.{or_flag}
 use Rattle.marking.proofs.Counts.{sum_none, sum_more, or_flag_lem, or_le}
-use Rattle.marking.proofs.Passing.{On, on_start, on_step, on_end, on_flag, on_missing}
-use borrow.Author.Rules.{rules}
+use Rattle.marking.proofs.Passing.{on_start, on_step, on_end, on_flag, on_missing}
 use Rattle.marking.proofs.free_all.Invariants.{after, gives}
 use Rattle.marking.proofs.free_all.Goals as goal
 use Rattle.marking.proofs.free_all.Goals.{After-either-count}

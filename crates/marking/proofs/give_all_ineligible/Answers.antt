@@ -1,16 +1,12 @@
 -- `marking::give_all_ineligible` meets its contract: the exposures below `e` have given back.
 -- Assumes nothing.
 use mathlib.Core.Path.{◌≡◌}
-use Prim.Native.Nat.{◌-◌, ◌≤◌}
 use native.Mathlib.Omega.{arith}
-use Rattle.laws.specs.Filled.{filled}
 use Rattle.laws.proofs.Filled.{filled_first, filled_next}
 use Rattle.book.specs.State.{state}
-use Rattle.mark_steps.specs.Stepped.{bit}
 use Rattle.mark_steps.proofs.Passable.{first_pass}
-use Rattle.rules.specs.Marking.{on_exposures, moved, ineligible_back}
-use Rattle.marking.proofs.Passing.{On, on_start, on_step, on_end, on_flag, passed_fresh}
-use borrow.Author.Rules.{rules}
+use Rattle.rules.specs.Marking.{on_exposures, ineligible_back}
+use Rattle.marking.proofs.Passing.{on_start, on_step, on_end, on_flag, passed_fresh}
 use Rattle.marking.proofs.give_all_ineligible.Goals as goal
 
 pub loop-e-init : goal.loop-e-init

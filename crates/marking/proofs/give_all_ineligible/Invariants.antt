@@ -2,19 +2,15 @@
 -- Assumes nothing.
 use mathlib.Core.Path.{◌≡◌}
 use Prim.Native.Nat.{◌-◌, ◌≤◌}
-use native.Mathlib.Omega.{arith}
 use Rattle.laws.specs.Filled.{filled}
-use Rattle.laws.proofs.Filled.{filled_first, filled_next}
 use Rattle.book.specs.State.{state}
 use Rattle.mark_steps.specs.Stepped.{bit}
-use Rattle.mark_steps.proofs.Passable.{first_pass}
 use Rattle.rules.specs.Marking.{on_exposures, moved, ineligible_back}
-use Rattle.marking.proofs.Passing.{On, on_start, on_step, on_end, on_flag, passed_fresh}
-use borrow.Author.Rules.{rules}
+use Rattle.marking.proofs.Passing.{On}
 use Rattle.marking.proofs.give_all_ineligible.Given as goal
 
 abbrev pub invariant-loop-e : goal.invariant-loop-e
-invariant-loop-e l =     (l.e ≤ 64) × On ineligible_back l.columns l.initial.book l.book l.e × (l.gave ≡ filled (λ j. bit (moved (state l.initial.book) (on_exposures ineligible_back 64 (state l.initial.book)) j)) 64 l.e)
+invariant-loop-e l = (l.e ≤ 64) × On ineligible_back l.columns l.initial.book l.book l.e × (l.gave ≡ filled (λ j. bit (moved (state l.initial.book) (on_exposures ineligible_back 64 (state l.initial.book)) j)) 64 l.e)
 
 abbrev pub decreases-loop-e : goal.decreases-loop-e
 decreases-loop-e l = 64 - l.e

@@ -6,7 +6,6 @@ use Rattle.facts.proofs.Written.{sound_facts}
 use Rattle.mark_steps.proofs.Passable.{first_pass, second_pass}
 use Rattle.marking.proofs.Passing.{passed_fresh}
 use Rattle.marking.proofs.Whole.{flags_in, mark_whole}
-use borrow.Author.Rules.{rules}
 use Rattle.marking.proofs.mark.Goals as goal
 
 pub fresh_since-since-requires : goal.fresh_since-since-requires

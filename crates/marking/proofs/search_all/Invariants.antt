@@ -1,19 +1,13 @@
 -- `marking::search_all` meets its contract: the exposures below `e` are searched for.
 -- Assumes nothing.
-use mathlib.Core.Path.{◌≡◌, ◌∙◌}
+use mathlib.Core.Path.{◌≡◌}
 use mathlib.Core.Bool.{Bool}
-use Prim.Native.Nat.{ℕ, ◌-◌, ◌*◌, ◌≤◌, ◌<◌}
-use native.Mathlib.Nat.{le_refl}
-use native.Mathlib.Omega.{arith}
+use Prim.Native.Nat.{ℕ, ◌-◌, ◌*◌, ◌≤◌}
 use Rattle.laws.specs.Sum.{sum}
-use Rattle.laws.proofs.Filled.{filled_at}
 use Rattle.book.specs.State.{State, state}
 use Rattle.mark_steps.specs.Stepped.{bit}
-use Rattle.mark_steps.proofs.Passable.{third_pass}
 use Rattle.rules.specs.Marking.{on_exposures, moved, shortfall_in, missing_of}
-use Rattle.marking.proofs.Counts.{sum_none, sum_more, bit_le}
-use Rattle.marking.proofs.Passing.{On, on_start, on_step, on_end, on_before, on_flag, on_missing, missing_le, passed_fresh}
-use borrow.Author.Rules.{rules}
+use Rattle.marking.proofs.Passing.{On}
 use Rattle.marking.proofs.search_all.Given as goal
 
 -- the state after the pass, and whether it changes the position of an exposure

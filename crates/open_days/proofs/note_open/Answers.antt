@@ -1,7 +1,6 @@
 -- `open_days::note_open` meets its contract.
 -- Assumes nothing.
 use Rattle.open_days.proofs.Days.{day_noted}
-use borrow.Author.Rules.{rules}
 use Rattle.open_days.proofs.note_open.Goals as goal
 
 pub returns : goal.returns

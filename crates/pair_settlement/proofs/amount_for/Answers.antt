@@ -1,7 +1,6 @@
 -- `pair_settlement::amount_for` meets its contract.
 -- Assumes nothing.
 use Rattle.pair_settlement.proofs.Amounts.{settles_whole, settles_part, settles_none}
-use borrow.Author.Rules.{rules}
 use Rattle.pair_settlement.proofs.amount_for.Goals as goal
 
 pub returns-then-rest-found : goal.returns-then-rest-found

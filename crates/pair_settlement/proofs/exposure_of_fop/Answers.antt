@@ -1,6 +1,5 @@
 -- `pair_settlement::exposure_of_fop` meets its contract.
 -- Assumes nothing.
-use borrow.Author.Rules.{rules}
 use Rattle.pair_settlement.proofs.exposure_of_fop.Goals as goal
 
 pub returns : goal.returns

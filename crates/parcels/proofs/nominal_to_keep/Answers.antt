@@ -5,7 +5,6 @@ use borrow.Author.Tests.{le-leb, lt-leb}
 use Rattle.valuation.proofs.Inverse.{within_le}
 use Rattle.parcels.specs.Spare.{nominal_to_keep}
 use native.Mathlib.Omega.{arith}
-use borrow.Author.Rules.{rules}
 use Rattle.parcels.proofs.nominal_to_keep.Goals as goal
 
 pub returns-then-exposure-others : goal.returns-then-exposure-others

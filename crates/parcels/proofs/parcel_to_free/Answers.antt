@@ -1,10 +1,9 @@
 -- `parcels::parcel_to_free` meets its contract: one division finds the count.
 -- Assumes nothing.
-use Prim.Native.Nat.{ℕ, ◌-◌, ◌≤◌}
+use Prim.Native.Nat.{◌-◌, ◌≤◌}
 use native.Mathlib.Omega.{arith}
 use Rattle.valuation.proofs.Laws.{value_mono}
 use Rattle.parcels.proofs.Parcels.{free_none, free_too_few, free_kept, free_no_lot, free_most}
-use borrow.Author.Rules.{rules}
 use Rattle.parcels.proofs.parcel_to_free.Goals as goal
 
 pub returns-then-lot-eq0 : goal.returns-then-lot-eq0

@@ -1,9 +1,7 @@
 -- `parcels::parcel_to_pick` meets its contract: one division finds the count.
 -- Assumes nothing.
-use Prim.Native.Nat.{ℕ, ◌≤◌}
 use native.Mathlib.Omega.{arith}
 use Rattle.parcels.proofs.Parcels.{pick_none, pick_too_few, pick_too_dear, pick_all, pick_most}
-use borrow.Author.Rules.{rules}
 use Rattle.parcels.proofs.parcel_to_pick.Goals as goal
 
 pub returns-then-lot-eq0 : goal.returns-then-lot-eq0

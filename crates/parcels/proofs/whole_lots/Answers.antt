@@ -5,7 +5,6 @@ use Prim.Native.Nat.{◌/◌}
 use native.Mathlib.Nat.{le_refl}
 use native.Mathlib.Omega.{arith}
 use Rattle.parcels.proofs.Parcels.{lots_le}
-use borrow.Author.Rules.{rules}
 use Rattle.parcels.proofs.whole_lots.Goals as goal
 
 pub overflow_mul-result : goal.overflow_mul-result

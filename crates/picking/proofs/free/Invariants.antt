@@ -1,12 +1,9 @@
 -- `picking::free` meets its contract: the securities from `i` on are done.
 -- Assumes nothing.
-use mathlib.Core.Path.{◌≡◌, refl, ap}
-use Prim.Native.Nat.{ℕ, suc, ◌+◌, ◌-◌, ◌≤◌, ◌<◌, min}
-use native.Mathlib.Omega.{arith}
+use mathlib.Core.Path.{◌≡◌}
+use Prim.Native.Nat.{◌-◌, ◌≤◌}
 use Rattle.picking.specs.Free.{freed_above}
 use Rattle.picking.specs.declared.Freed.{Freed}
-use Rattle.picking.proofs.Frees.{Freeing, back_part, loss_le, step_is, freeing, begins, first_le}
-use borrow.Author.Rules.{rules}
 use Rattle.picking.proofs.free.Given as goal
 
 abbrev pub invariant-loop-i : goal.invariant-loop-i

@@ -2,7 +2,6 @@
 -- Assumes nothing.
 use mathlib.Core.Bool.{and-false, and-true}
 use borrow.Author.Tests.{eq-eqb, ne_eqb}
-use borrow.Author.Rules.{rules}
 use Rattle.picking.proofs.is_allowed.Goals as goal
 
 pub returns-then-i-omitted : goal.returns-then-i-omitted

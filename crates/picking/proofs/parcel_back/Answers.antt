@@ -1,6 +1,5 @@
 -- `picking::parcel_back` meets its contract.
 -- Assumes nothing.
-use borrow.Author.Rules.{rules}
 use Rattle.picking.proofs.parcel_back.Goals as goal
 
 pub parcel_to_free-requires : goal.parcel_to_free-requires

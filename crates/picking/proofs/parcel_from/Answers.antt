@@ -5,9 +5,8 @@ use Rattle.parcels.specs.Lots.{parcel_to_pick}
 use Rattle.picking.specs.Pick.{but_not}
 use Rattle.securities.specs.Security.{security_at}
 use lib.ListN.{get_or}
-use mathlib.Core.Path.{◌≡◌, sym, ap, ◌∙◌}
+use mathlib.Core.Path.{◌≡◌, sym, ◌∙◌}
 use Rattle.picking.proofs.Picks.{from_eligible, from_other, from_empty}
-use borrow.Author.Rules.{rules}
 use Rattle.picking.proofs.parcel_from.Goals as goal
 use Rattle.picking.proofs.parcel_from.Goals.{After-parcel_to_pick-p}
 

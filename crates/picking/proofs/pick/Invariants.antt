@@ -1,13 +1,10 @@
 -- `picking::pick` meets its contract: the outcome is that of the securities below `i`.
 -- Assumes nothing.
-use mathlib.Core.Path.{◌≡◌, refl, ap}
-use Prim.Native.Nat.{ℕ, ◌+◌, ◌-◌, ◌≤◌, ◌<◌, min}
-use native.Mathlib.Omega.{arith}
+use mathlib.Core.Path.{◌≡◌}
+use Prim.Native.Nat.{◌-◌, ◌≤◌}
 use Rattle.baskets.specs.Fresh.{eligible_by}
 use Rattle.picking.specs.Pick.{but_not, picked_below}
 use Rattle.picking.specs.declared.Outcome.{Outcome}
-use Rattle.picking.proofs.Picks.{parcel_worth, picked_value, picked_count, picked_next}
-use borrow.Author.Rules.{rules}
 use Rattle.picking.proofs.pick.Given as goal
 
 abbrev pub invariant-loop-i : goal.invariant-loop-i

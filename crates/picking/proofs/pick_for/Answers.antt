@@ -3,7 +3,6 @@
 use mathlib.Core.Path.{◌∙◌}
 use Rattle.baskets.specs.Fresh.{eligible_by}
 use Rattle.picking.proofs.Picks.{picked_all}
-use borrow.Author.Rules.{rules}
 use Rattle.picking.proofs.pick_for.Goals as goal
 
 pub returns : goal.returns

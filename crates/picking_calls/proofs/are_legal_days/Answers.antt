@@ -3,7 +3,6 @@
 use mathlib.Core.Path.{sym, ◌∙◌}
 use borrow.Author.Tests.{not-false}
 use Rattle.picking_calls.proofs.Legal.{closed_today, by_quotes}
-use borrow.Author.Rules.{rules}
 use Rattle.picking_calls.proofs.are_legal_days.Goals as goal
 
 pub returns-then-not-is_open : goal.returns-then-not-is_open

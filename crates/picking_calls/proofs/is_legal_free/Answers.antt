@@ -1,7 +1,6 @@
 -- `picking_calls::is_legal_free` meets its contract.
 -- Assumes nothing.
 use Rattle.picking_calls.proofs.Legal.{free_nominals, free_securities, free_exposure_lem}
-use borrow.Author.Rules.{rules}
 use Rattle.picking_calls.proofs.is_legal_free.Goals as goal
 
 pub returns-then-not-are_nominals : goal.returns-then-not-are_nominals

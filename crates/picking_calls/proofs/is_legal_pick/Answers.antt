@@ -1,7 +1,6 @@
 -- `picking_calls::is_legal_pick` meets its contract.
 -- Assumes nothing.
 use Rattle.picking_calls.proofs.Legal.{pick_nominals, pick_securities, pick_map, pick_oldest, pick_amount}
-use borrow.Author.Rules.{rules}
 use Rattle.picking_calls.proofs.is_legal_pick.Goals as goal
 
 pub returns-then-not-are_nominals : goal.returns-then-not-are_nominals

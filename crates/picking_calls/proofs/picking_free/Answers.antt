@@ -3,7 +3,6 @@
 use mathlib.Core.Path.{sym, ◌∙◌}
 use borrow.Author.Tests.{not-false}
 use Rattle.picking_calls.proofs.Legal.{free_in_bounds, free_within, free_refused_lem, free_done}
-use borrow.Author.Rules.{rules}
 use Rattle.picking_calls.proofs.picking_free.Goals as goal
 
 pub returns-then-not-is_legal_free : goal.returns-then-not-is_legal_free

@@ -1,7 +1,6 @@
 -- `picking_calls::picking_pick` meets its contract.
 -- Assumes nothing.
 use Rattle.picking_calls.proofs.Legal.{pick_ready, pick_refused_range, pick_refused_day, pick_done}
-use borrow.Author.Rules.{rules}
 use Rattle.picking_calls.proofs.picking_pick.Goals as goal
 
 pub returns-then-not-is_legal_pick : goal.returns-then-not-is_legal_pick

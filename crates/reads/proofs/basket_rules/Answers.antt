@@ -1,7 +1,6 @@
 -- `reads::basket_rules` meets its contract.
 -- Assumes nothing.
 use Rattle.reads.proofs.Returns.{row_far, not_set_up, set_up}
-use borrow.Author.Rules.{rules}
 use Rattle.reads.proofs.basket_rules.Goals as goal
 
 pub returns-then-b-ge16 : goal.returns-then-b-ge16

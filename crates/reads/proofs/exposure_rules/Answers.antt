@@ -1,7 +1,6 @@
 -- `reads::exposure_rules` meets its contract.
 -- Assumes nothing.
 use Rattle.reads.proofs.Returns.{row_far, not_in_use, in_use_lem}
-use borrow.Author.Rules.{rules}
 use Rattle.reads.proofs.exposure_rules.Goals as goal
 
 pub returns-then-e-ge64 : goal.returns-then-e-ge64

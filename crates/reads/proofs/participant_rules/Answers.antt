@@ -1,7 +1,6 @@
 -- `reads::participant_rules` meets its contract.
 -- Assumes nothing.
 use Rattle.reads.proofs.Returns.{row_far, not_set_up, set_up}
-use borrow.Author.Rules.{rules}
 use Rattle.reads.proofs.participant_rules.Goals as goal
 
 pub returns-then-p-ge32 : goal.returns-then-p-ge32

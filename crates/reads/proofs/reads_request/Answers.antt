@@ -3,7 +3,6 @@
 use Prim.Native.Nat.{◌<◌}
 use native.Mathlib.Omega.{arith}
 use Rattle.reads.proofs.Answers.{accepted_length, accepted_sound, damaged, request_refused, request_read, row_near}
-use borrow.Author.Rules.{rules}
 use Rattle.reads.proofs.reads_request.Goals as goal
 
 pub returns-then-damaged-ne0 : goal.returns-then-damaged-ne0

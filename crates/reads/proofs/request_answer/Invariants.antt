@@ -1,13 +1,10 @@
 -- `reads::request_answer` meets its contract: the numbers below `k` are filled in.
 -- Assumes nothing.
 use Prim.Native.Nat.{◌-◌, ◌≤◌}
-use native.Mathlib.Omega.{arith}
 use mathlib.Core.Path.{◌≡◌}
 use Rattle.laws.specs.Filled.{filled}
-use Rattle.laws.proofs.Filled.{filled_first, filled_next}
 use Rattle.book.specs.State.{state}
 use Rattle.reads.specs.Entries.{request_number}
-use borrow.Author.Rules.{rules}
 use Rattle.reads.proofs.request_answer.Given as goal
 
 abbrev pub invariant-loop-k : goal.invariant-loop-k

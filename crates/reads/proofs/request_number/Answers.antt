@@ -1,9 +1,7 @@
 -- `reads::request_number` meets its contract.
 -- Assumes nothing.
-use Prim.Native.Nat.{◌+◌}
 use native.Mathlib.Omega.{arith}
 use Rattle.reads.proofs.Returns.{number_code, number_partner, number_field, number_rows}
-use borrow.Author.Rules.{rules}
 use Rattle.reads.proofs.request_number.Goals as goal
 
 pub returns-then-k-eq0 : goal.returns-then-k-eq0

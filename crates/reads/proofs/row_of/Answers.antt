@@ -1,12 +1,8 @@
 -- `reads::row_of` meets its contract: the rows from `i` on decide.
 -- Assumes nothing.
 use mathlib.Core.Path.{refl}
-use Prim.Native.Nat.{◌-◌, ◌≤◌}
 use native.Mathlib.Omega.{arith}
-use Rattle.book.specs.State.{state}
-use Rattle.rules.specs.Reads.{row_of}
-use Rattle.reads.proofs.Returns.{Searching, is_row, row_zero, row_end, row_here, row_on}
-use borrow.Author.Rules.{rules}
+use Rattle.reads.proofs.Returns.{row_zero, row_end, row_here, row_on}
 use Rattle.reads.proofs.row_of.Goals as goal
 
 pub returns-then-number-eq0 : goal.returns-then-number-eq0

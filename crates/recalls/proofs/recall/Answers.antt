@@ -25,11 +25,10 @@ give_back-requires c =
     (c.requires.0, one_gives (accepted_recalling c.args.book.now c.args.fields.now c.requires.0 c.requires.1 c.requires.2 c.requires.3) (λ i. (c.slice_known-1.given i).fits))
 
 pub pledge-requires : goal.pledge-requires
-pledge-requires c =
-    (
-      search rules,
-      found_pledges (accepted_recalling c.args.book.now c.args.fields.now c.requires.0 c.requires.1 c.requires.2 c.requires.3) (λ i. (c.slice_known-1.given i).fits) c.give_back.ensures c.substitutes-found.ensures,
-    )
+pledge-requires c = (
+  search rules,
+  found_pledges (accepted_recalling c.args.book.now c.args.fields.now c.requires.0 c.requires.1 c.requires.2 c.requires.3) (λ i. (c.slice_known-1.given i).fits) c.give_back.ensures c.substitutes-found.ensures,
+)
 
 pub returns : goal.returns
 returns c =

@@ -2,7 +2,6 @@
 -- Assumes nothing.
 use Rattle.book.specs.State.{state}
 use Rattle.recalls.proofs.Returns.{code_names, code_holds, all_passed, code_none, code_refused}
-use borrow.Author.Rules.{rules}
 use Rattle.recalls.proofs.recall_code.Goals as goal
 
 pub returns-then-names-ne0 : goal.returns-then-names-ne0

@@ -1,6 +1,5 @@
 -- `record_kinds::field_of` meets its contract.
 -- Assumes nothing.
-use borrow.Author.Rules.{rules}
 use Rattle.record_kinds.proofs.Fields.{type_at}
 use Rattle.record_kinds.proofs.field_of.Goals as goal
 

@@ -1,12 +1,8 @@
 -- `records::are_in_ranges` meets its contract: what is left to test from j on decides.
 -- Assumes nothing.
-use Prim.Native.Nat.{◌-◌, ◌≤◌}
 use native.Mathlib.Omega.{arith}
-use borrow.Author.Rules.{rules}
-use Rattle.laws.proofs.Least.{Rest, loop_fails, loop_passes, loop_ends}
-use Rattle.records.specs.Writing.{are_legal}
-use Rattle.records.proofs.Ranges.{legal_at, ranges_first}
-use Rattle.record_kinds.specs.Kinds.{places}
+use Rattle.laws.proofs.Least.{loop_fails, loop_passes, loop_ends}
+use Rattle.records.proofs.Ranges.{ranges_first}
 use Rattle.records.proofs.are_in_ranges.Goals as goal
 
 pub loop-j-init : goal.loop-j-init

@@ -1,6 +1,5 @@
 -- `records::eight_at` meets its contract.
 -- Assumes nothing.
-use borrow.Author.Rules.{rules}
 use Rattle.laws.proofs.Numbers.{number_halves}
 use Rattle.records.proofs.eight_at.Goals as goal
 

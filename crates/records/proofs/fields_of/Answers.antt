@@ -1,13 +1,9 @@
 -- `records::fields_of` meets its contract: the places below j are filled.
 -- Assumes nothing.
 use mathlib.Core.Path.{◌≡◌}
-use Prim.Native.Nat.{◌-◌, ◌≤◌}
 use native.Mathlib.Omega.{arith}
-use borrow.Author.Rules.{rules}
-use Rattle.laws.specs.Filled.{filled}
 use Rattle.laws.proofs.Filled.{filled_first}
-use Rattle.record_kinds.specs.Kinds.{places, offset_of}
-use Rattle.records.specs.Reading.{field_in}
+use Rattle.record_kinds.specs.Kinds.{places}
 use Rattle.record_kinds.proofs.Fields.{start_first, place_next, place_inside, place_fits, field_usual}
 use Rattle.records.proofs.Places.{places_next}
 use Rattle.records.proofs.fields_of.Goals as goal

@@ -1,7 +1,6 @@
 -- `records::four_at` meets its contract.
 -- Assumes nothing.
 use native.Mathlib.Omega.{arith}
-use borrow.Author.Rules.{rules}
 use Rattle.laws.proofs.Numbers.{number_halves}
 use Rattle.records.proofs.four_at.Goals as goal
 

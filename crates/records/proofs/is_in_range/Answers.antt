@@ -1,6 +1,5 @@
 -- `records::is_in_range` meets its contract.
 -- Assumes nothing.
-use borrow.Author.Rules.{rules}
 use Rattle.records.proofs.Ranges.{too_small, by_greatest}
 use Rattle.records.proofs.is_in_range.Goals as goal
 

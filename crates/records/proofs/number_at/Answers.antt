@@ -2,7 +2,6 @@
 -- Assumes nothing.
 use mathlib.Core.Path.{◌≡◌}
 use native.Mathlib.Omega.{arith}
-use borrow.Author.Rules.{rules}
 use Rattle.laws.proofs.Numbers.{number_first, number_one}
 use Rattle.record_kinds.proofs.Fields.{width_eight}
 use Rattle.records.proofs.number_at.Goals as goal

@@ -1,6 +1,5 @@
 -- `records::put_eight` meets its contract.
 -- Assumes nothing.
-use borrow.Author.Rules.{rules}
 use Rattle.laws.proofs.Patches.{put_halves}
 use Rattle.records.proofs.put_eight.Goals as goal
 

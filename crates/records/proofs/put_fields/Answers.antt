@@ -1,13 +1,7 @@
 -- `records::put_fields` meets its contract: up to the field j the part is the record.
 -- Assumes nothing.
-use mathlib.Core.Path.{◌≡◌}
-use mathlib.Core.List.{◌++◌}
-use Prim.Native.Nat.{◌-◌, ◌≤◌}
 use native.Mathlib.Omega.{arith}
 use borrow.Author.Rules.{rules}
-use lib.ListN.{length, drop}
-use Rattle.record_kinds.specs.Kinds.{places, offset_of, length_of}
-use Rattle.records.specs.Writing.{record_bytes_to}
 use Rattle.record_kinds.proofs.Fields.{start_first, length_some, place_next, place_inside, place_fits, field_usual}
 use Rattle.records.proofs.Images.{fill_start, fill_next, fill_end}
 use Rattle.records.proofs.put_fields.Goals as goal

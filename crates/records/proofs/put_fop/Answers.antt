@@ -1,6 +1,5 @@
 -- `records::put_fop` meets its contract.
 -- Assumes nothing.
-use borrow.Author.Rules.{rules}
 use Rattle.records.proofs.Fop.{fop_put}
 use Rattle.records.proofs.put_fop.Goals as goal
 

@@ -1,6 +1,5 @@
 -- `records::put_four` meets its contract.
 -- Assumes nothing.
-use borrow.Author.Rules.{rules}
 use Rattle.laws.proofs.Patches.{put_halves}
 use Rattle.records.proofs.put_four.Goals as goal
 

@@ -2,7 +2,6 @@
 -- Assumes nothing.
 use mathlib.Core.Path.{◌≡◌}
 use native.Mathlib.Omega.{arith}
-use borrow.Author.Rules.{rules}
 use Rattle.laws.proofs.Patches.{put_none, put_width}
 use Rattle.record_kinds.proofs.Fields.{width_eight}
 use Rattle.records.proofs.put_number.Goals as goal

@@ -1,6 +1,5 @@
 -- `records::put_one` meets its contract.
 -- Assumes nothing.
-use borrow.Author.Rules.{rules}
 use Rattle.laws.proofs.Patches.{put_byte}
 use Rattle.records.proofs.put_one.Goals as goal
 

@@ -1,6 +1,5 @@
 -- `records::put_parties` meets its contract.
 -- Assumes nothing.
-use borrow.Author.Rules.{rules}
 use Rattle.records.proofs.Fop.{parties_put}
 use Rattle.records.proofs.put_parties.Goals as goal
 

@@ -1,6 +1,5 @@
 -- `records::put_record` meets its contract.
 -- Assumes nothing.
-use borrow.Author.Rules.{rules}
 use Rattle.records.proofs.Fop.{fop_length, fop_bytes}
 use Rattle.records.proofs.put_record.Goals as goal
 

@@ -1,6 +1,5 @@
 -- `records::put_two` meets its contract.
 -- Assumes nothing.
-use borrow.Author.Rules.{rules}
 use Rattle.laws.proofs.Patches.{put_halves}
 use Rattle.records.proofs.put_two.Goals as goal
 

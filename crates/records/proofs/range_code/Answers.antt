@@ -1,6 +1,5 @@
 -- `records::range_code` meets its contract.
 -- Assumes nothing.
-use borrow.Author.Rules.{rules}
 use Rattle.records.proofs.Ranges.{code_legal, code_illegal}
 use Rattle.records.proofs.range_code.Goals as goal
 

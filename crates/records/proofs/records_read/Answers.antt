@@ -1,6 +1,5 @@
 -- `records::records_read` meets its contract.
 -- Assumes nothing.
-use borrow.Author.Rules.{rules}
 use native.Mathlib.Omega.{arith}
 use Rattle.records.proofs.Returns.{read_empty, read_unknown, read_misfit, read_illegal, read_legal}
 use Rattle.records.proofs.records_read.Goals as goal

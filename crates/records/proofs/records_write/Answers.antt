@@ -1,7 +1,6 @@
 -- `records::records_write` meets its contract.
 -- Assumes nothing.
 use native.Mathlib.Omega.{arith}
-use borrow.Author.Rules.{rules}
 use Rattle.answers.specs.Answers.{malformed}
 use Rattle.records.proofs.Returns.{part_kept, part_filled, write_unknown, write_misfit, write_ranged}
 use Rattle.records.proofs.records_write.Goals as goal

@@ -1,7 +1,6 @@
 -- `records::two_at` meets its contract.
 -- Assumes nothing.
 use native.Mathlib.Omega.{arith}
-use borrow.Author.Rules.{rules}
 use Rattle.laws.proofs.Numbers.{number_one, number_halves}
 use Rattle.records.proofs.two_at.Goals as goal
 

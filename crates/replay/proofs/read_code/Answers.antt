@@ -1,7 +1,6 @@
 -- `replay::read_code` meets its contract.
 -- Assumes nothing.
 use Rattle.replay.proofs.Stream.{account_code_lem, position_code, exposure_code, request_code, basket_code}
-use borrow.Author.Rules.{rules}
 use Rattle.replay.proofs.read_code.Goals as goal
 
 pub returns-then-what-lt2 : goal.returns-then-what-lt2

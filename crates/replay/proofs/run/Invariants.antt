@@ -1,11 +1,8 @@
 -- `replay::run` meets its contract: what is done so far is the calls so far.
 -- Assumes nothing.
-use mathlib.Core.Path.{◌≡◌}
 use Prim.Native.Nat.{◌-◌}
-use native.Mathlib.Omega.{arith}
 use lib.ListN.{length}
-use Rattle.replay.proofs.Stream.{Walk, length_part, walk_begins, walk_goes_on, walk_done}
-use borrow.Author.Rules.{rules}
+use Rattle.replay.proofs.Stream.{Walk}
 use Rattle.replay.proofs.run.Given as goal
 
 abbrev pub invariant-loop-k : goal.invariant-loop-k

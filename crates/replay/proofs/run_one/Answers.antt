@@ -1,7 +1,6 @@
 -- `replay::run_one` meets its contract.
 -- Assumes nothing.
 use Rattle.replay.proofs.Stream.{one_read, one_record}
-use borrow.Author.Rules.{rules}
 use Rattle.replay.proofs.run_one.Goals as goal
 
 pub returns-then-what-ne0 : goal.returns-then-what-ne0

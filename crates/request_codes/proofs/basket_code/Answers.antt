@@ -1,7 +1,6 @@
 -- `request_codes::basket_code` meets its contract.
 -- Assumes nothing.
 use Rattle.request_codes.proofs.Returns.{no_basket_lem, basket_known}
-use borrow.Author.Rules.{rules}
 use Rattle.request_codes.proofs.basket_code.Goals as goal
 
 pub returns-then-get-eq0 : goal.returns-then-get-eq0

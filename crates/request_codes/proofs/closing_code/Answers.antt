@@ -1,7 +1,6 @@
 -- `request_codes::closing_code` meets its contract.
 -- Assumes nothing.
 use Rattle.request_codes.proofs.Returns.{closing_none, closing_closed, closing_early, closing_good}
-use borrow.Author.Rules.{rules}
 use Rattle.request_codes.proofs.closing_code.Goals as goal
 
 pub returns-then-fields-eq0 : goal.returns-then-fields-eq0

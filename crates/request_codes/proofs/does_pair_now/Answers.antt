@@ -1,7 +1,6 @@
 -- `request_codes::does_pair_now` meets its contract.
 -- Assumes nothing.
 use Rattle.request_codes.proofs.Returns.{pairs_with_taker, pairs_by_equal}
-use borrow.Author.Rules.{rules}
 use Rattle.request_codes.proofs.does_pair_now.Goals as goal
 
 pub returns-then-does_taker_follow : goal.returns-then-does_taker_follow

@@ -1,7 +1,6 @@
 -- `request_codes::exposure_code` meets its contract.
 -- Assumes nothing.
 use Rattle.request_codes.proofs.Returns.{some_free, key_used, none_free, pairs_later}
-use borrow.Author.Rules.{rules}
 use Rattle.request_codes.proofs.exposure_code.Goals as goal
 
 pub returns-then-free_exposure-ne64 : goal.returns-then-free_exposure-ne64

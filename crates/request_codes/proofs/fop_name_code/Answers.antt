@@ -1,7 +1,6 @@
 -- `request_codes::fop_name_code` meets its contract.
 -- Assumes nothing.
 use Rattle.request_codes.proofs.Returns.{name_party, name_basket, name_settlement, name_closing}
-use borrow.Author.Rules.{rules}
 use Rattle.request_codes.proofs.fop_name_code.Goals as goal
 
 pub returns-then-party-ne0 : goal.returns-then-party-ne0

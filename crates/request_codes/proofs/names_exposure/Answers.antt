@@ -1,7 +1,6 @@
 -- `request_codes::names_exposure` meets its contract.
 -- Assumes nothing.
 use Rattle.laws.proofs.Tests.{fails, passes, last}
-use borrow.Author.Rules.{rules}
 use Rattle.request_codes.proofs.names_exposure.Goals as goal
 
 pub returns-then-get-ne1 : goal.returns-then-get-ne1

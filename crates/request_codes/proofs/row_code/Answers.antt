@@ -1,7 +1,6 @@
 -- `request_codes::row_code` meets its contract.
 -- Assumes nothing.
 use Rattle.request_codes.proofs.Returns.{few_rows, few_numbers, enough}
-use borrow.Author.Rules.{rules}
 use Rattle.request_codes.proofs.row_code.Goals as goal
 
 pub returns-then-free_rows-needed : goal.returns-then-free_rows-needed

@@ -2,7 +2,6 @@
 -- Assumes nothing.
 use native.Mathlib.Omega.{arith}
 use Rattle.request_codes.proofs.Returns.{two_rows, one_row}
-use borrow.Author.Rules.{rules}
 use Rattle.request_codes.proofs.rows_needed.Goals as goal
 
 pub returns-then-does_taker_follow : goal.returns-then-does_taker_follow

@@ -1,7 +1,6 @@
 -- `request_codes::settlement_code` meets its contract.
 -- Assumes nothing.
 use Rattle.request_codes.proofs.Returns.{settlement_closed, settlement_past, settlement_good}
-use borrow.Author.Rules.{rules}
 use Rattle.request_codes.proofs.settlement_code.Goals as goal
 
 pub returns-then-not-is_open : goal.returns-then-not-is_open

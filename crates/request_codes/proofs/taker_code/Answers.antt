@@ -1,7 +1,6 @@
 -- `request_codes::taker_code` meets its contract.
 -- Assumes nothing.
 use Rattle.request_codes.proofs.Returns.{giver_takes, giver_enters, not_needed, taker_enters}
-use borrow.Author.Rules.{rules}
 use Rattle.request_codes.proofs.taker_code.Goals as goal
 
 pub returns-then-fields : goal.returns-then-fields

@@ -2,7 +2,6 @@
 -- Assumes nothing.
 use Rattle.book.specs.State.{state}
 use Rattle.request_entry.proofs.Returns.{equal_written}
-use borrow.Author.Rules.{rules}
 use Rattle.request_entry.proofs.enter_with_equal.Goals as goal
 
 pub returns : goal.returns

@@ -1,6 +1,5 @@
 -- `request_entry::give_exposure` meets its contract.
 -- Assumes nothing.
-use borrow.Author.Rules.{rules}
 use Rattle.request_entry.proofs.give_exposure.Goals as goal
 
 pub returns : goal.returns

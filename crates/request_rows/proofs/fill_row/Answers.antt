@@ -1,7 +1,6 @@
 -- `request_rows::fill_row` meets its contract.
 -- Assumes nothing.
 use Rattle.request_rows.specs.Rows.{filled_row}
-use borrow.Author.Rules.{rules}
 use Rattle.request_rows.proofs.fill_row.Goals as goal
 
 pub returns : goal.returns

@@ -2,7 +2,6 @@
 -- Assumes nothing.
 use native.Mathlib.Omega.{arith}
 use Rattle.request_rows.proofs.Returns.{giver_whole, taker_whole, both_partial}
-use borrow.Author.Rules.{rules}
 use Rattle.request_rows.proofs.partial_mark.Goals as goal
 
 pub returns-then-get-ne1 : goal.returns-then-get-ne1

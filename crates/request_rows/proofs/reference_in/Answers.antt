@@ -1,7 +1,6 @@
 -- `request_rows::reference_in` meets its contract.
 -- Assumes nothing.
 use Rattle.request_rows.proofs.Returns.{fop_reference, return_reference}
-use borrow.Author.Rules.{rules}
 use Rattle.request_rows.proofs.reference_in.Goals as goal
 
 pub returns-then-kind-eq6 : goal.returns-then-kind-eq6

@@ -1,6 +1,5 @@
 -- `request_rows::take_row` meets its contract.
 -- Assumes nothing.
-use borrow.Author.Rules.{rules}
 use Rattle.request_rows.proofs.take_row.Goals as goal
 
 pub returns : goal.returns

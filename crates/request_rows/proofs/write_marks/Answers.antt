@@ -1,7 +1,6 @@
 -- `request_rows::write_marks` meets its contract.
 -- Assumes nothing.
 use Rattle.request_rows.specs.Rows.{with_marks}
-use borrow.Author.Rules.{rules}
 use Rattle.request_rows.proofs.write_marks.Goals as goal
 
 pub returns : goal.returns

@@ -1,7 +1,6 @@
 -- `request_rows::write_parties` meets its contract.
 -- Assumes nothing.
 use Rattle.request_rows.specs.Rows.{with_parties}
-use borrow.Author.Rules.{rules}
 use Rattle.request_rows.proofs.write_parties.Goals as goal
 
 pub returns : goal.returns

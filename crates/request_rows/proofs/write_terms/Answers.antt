@@ -1,7 +1,6 @@
 -- `request_rows::write_terms` meets its contract.
 -- Assumes nothing.
 use Rattle.request_rows.specs.Rows.{with_terms}
-use borrow.Author.Rules.{rules}
 use Rattle.request_rows.proofs.write_terms.Goals as goal
 
 pub returns : goal.returns

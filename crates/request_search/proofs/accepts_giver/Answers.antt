@@ -2,7 +2,6 @@
 -- Assumes nothing.
 use Rattle.laws.proofs.Tests.{fails, holds, else}
 use Rattle.request_search.proofs.Returns.{by_list_lem}
-use borrow.Author.Rules.{rules}
 use Rattle.request_search.proofs.accepts_giver.Goals as goal
 
 pub returns-then-mode-eq1 : goal.returns-then-mode-eq1

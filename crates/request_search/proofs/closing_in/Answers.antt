@@ -1,7 +1,6 @@
 -- `request_search::closing_in` meets its contract.
 -- Assumes nothing.
 use Rattle.request_search.proofs.Returns.{fop_closing, no_closing_lem}
-use borrow.Author.Rules.{rules}
 use Rattle.request_search.proofs.closing_in.Goals as goal
 
 pub returns-then-kind-eq6 : goal.returns-then-kind-eq6

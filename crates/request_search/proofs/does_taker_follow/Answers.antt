@@ -1,7 +1,6 @@
 -- `request_search::does_taker_follow` meets its contract.
 -- Assumes nothing.
 use Rattle.request_search.proofs.Returns.{takers_own, by_acceptance}
-use borrow.Author.Rules.{rules}
 use Rattle.request_search.proofs.does_taker_follow.Goals as goal
 
 pub returns-then-fields-ne0 : goal.returns-then-fields-ne0

@@ -1,7 +1,6 @@
 -- `request_search::earlier` meets its contract.
 -- Assumes nothing.
 use Rattle.request_search.proofs.Returns.{best_stays, first_equal, earlier_equal, later_equal}
-use borrow.Author.Rules.{rules}
 use Rattle.request_search.proofs.earlier.Goals as goal
 
 pub returns-then-not-is_equal : goal.returns-then-not-is_equal

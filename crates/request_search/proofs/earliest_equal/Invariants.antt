@@ -1,15 +1,11 @@
 -- `request_search::earliest_equal` meets its contract: the best is that of the rows below `i`.
 -- Assumes nothing.
-use mathlib.Core.Path.{◌≡◌, sym}
+use mathlib.Core.Path.{◌≡◌}
 use Prim.Native.Nat.{◌-◌, ◌≤◌}
-use native.Mathlib.Omega.{arith}
 use Rattle.laws.specs.Search.{least_by}
 use Rattle.book.specs.Layout.{numbers}
 use Rattle.book.specs.State.{state}
-use Rattle.rules.specs.Requesting.{is_equal, earliest_equal}
-use Rattle.request_search.proofs.Searches.{least_by_first}
-use Rattle.request_search.proofs.Returns.{earlier_of_all}
-use borrow.Author.Rules.{rules}
+use Rattle.rules.specs.Requesting.{is_equal}
 use Rattle.request_search.proofs.earliest_equal.Given as goal
 
 abbrev pub invariant-loop-i : goal.invariant-loop-i

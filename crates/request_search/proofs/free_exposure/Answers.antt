@@ -1,14 +1,10 @@
 -- `request_search::free_exposure` meets its contract: none below `e` is free.
 -- Assumes nothing.
 use mathlib.Core.Path.{refl, sym, ◌∙◌}
-use Prim.Native.Nat.{◌-◌, ◌≤◌}
 use native.Mathlib.Omega.{arith}
-use lib.Dec.{eqb}
-use Rattle.laws.proofs.Tests.{Ahead, found, onward, nowhere}
+use Rattle.laws.proofs.Tests.{found, onward, nowhere}
 use Rattle.book.specs.Layout.{in_use}
 use Rattle.book.specs.State.{state}
-use Rattle.rules.specs.Requests.{free_exposure}
-use borrow.Author.Rules.{rules}
 use borrow.Author.Tests.{eq-eqb, ne_eqb}
 use Rattle.request_search.proofs.free_exposure.Goals as goal
 

@@ -1,7 +1,6 @@
 -- `request_search::has_terms` meets its contract.
 -- Assumes nothing.
 use Rattle.request_search.proofs.Returns.{other_amount, other_settlement, other_object, by_closing}
-use borrow.Author.Rules.{rules}
 use Rattle.request_search.proofs.has_terms.Goals as goal
 
 pub returns-then-get-fields : goal.returns-then-get-fields

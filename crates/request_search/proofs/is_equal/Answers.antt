@@ -1,7 +1,6 @@
 -- `request_search::is_equal` meets its contract.
 -- Assumes nothing.
 use Rattle.request_search.proofs.Returns.{by_waiting, not_equal}
-use borrow.Author.Rules.{rules}
 use Rattle.request_search.proofs.is_equal.Goals as goal
 
 pub returns-then-is_other_side : goal.returns-then-is_other_side

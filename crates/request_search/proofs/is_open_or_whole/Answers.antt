@@ -2,7 +2,6 @@
 -- Assumes nothing.
 use Rattle.laws.proofs.Tests.{holds, else}
 use Rattle.request_search.proofs.Returns.{whole_read}
-use borrow.Author.Rules.{rules}
 use Rattle.request_search.proofs.is_open_or_whole.Goals as goal
 
 pub returns-then-get-eq0 : goal.returns-then-get-eq0

@@ -1,7 +1,6 @@
 -- `request_search::is_other_side` meets its contract.
 -- Assumes nothing.
 use Rattle.request_search.proofs.Returns.{other_terms, other_giver, other_taker, other_kind, by_side}
-use borrow.Author.Rules.{rules}
 use Rattle.request_search.proofs.is_other_side.Goals as goal
 
 pub returns-then-not-has_terms : goal.returns-then-not-has_terms

@@ -1,7 +1,6 @@
 -- `request_search::is_own_request` meets its contract.
 -- Assumes nothing.
 use Rattle.request_search.proofs.Returns.{other_number, number_none, ended_part, by_owner}
-use borrow.Author.Rules.{rules}
 use Rattle.request_search.proofs.is_own_request.Goals as goal
 
 pub returns-then-found-number : goal.returns-then-found-number

@@ -1,7 +1,6 @@
 -- `request_search::is_owner` meets its contract.
 -- Assumes nothing.
 use Rattle.request_search.proofs.Returns.{giver_owns, taker_owns, no_owner}
-use borrow.Author.Rules.{rules}
 use Rattle.request_search.proofs.is_owner.Goals as goal
 
 pub returns-then-side-eq0 : goal.returns-then-side-eq0

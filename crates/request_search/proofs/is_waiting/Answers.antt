@@ -1,7 +1,6 @@
 -- `request_search::is_waiting` meets its contract.
 -- Assumes nothing.
 use Rattle.request_search.proofs.Returns.{not_used, paired_already, ended_already, by_rest}
-use borrow.Author.Rules.{rules}
 use Rattle.request_search.proofs.is_waiting.Goals as goal
 
 pub returns-then-get-eq0 : goal.returns-then-get-eq0

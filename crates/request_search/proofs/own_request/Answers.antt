@@ -1,12 +1,8 @@
 -- `request_search::own_request` meets its contract: none below `i` is the one.
 -- Assumes nothing.
 use mathlib.Core.Path.{refl}
-use Prim.Native.Nat.{◌-◌, ◌≤◌}
 use native.Mathlib.Omega.{arith}
-use Rattle.laws.proofs.Tests.{Ahead, found, onward, nowhere}
-use Rattle.book.specs.State.{state}
-use Rattle.rules.specs.Requesting.{is_own_request, own_request}
-use borrow.Author.Rules.{rules}
+use Rattle.laws.proofs.Tests.{found, onward, nowhere}
 use Rattle.request_search.proofs.own_request.Goals as goal
 
 pub loop-i-init : goal.loop-i-init

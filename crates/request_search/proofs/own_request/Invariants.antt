@@ -1,12 +1,9 @@
 -- `request_search::own_request` meets its contract: none below `i` is the one.
 -- Assumes nothing.
-use mathlib.Core.Path.{refl}
 use Prim.Native.Nat.{◌-◌, ◌≤◌}
-use native.Mathlib.Omega.{arith}
-use Rattle.laws.proofs.Tests.{Ahead, found, onward, nowhere}
+use Rattle.laws.proofs.Tests.{Ahead}
 use Rattle.book.specs.State.{state}
 use Rattle.rules.specs.Requesting.{is_own_request, own_request}
-use borrow.Author.Rules.{rules}
 use Rattle.request_search.proofs.own_request.Given as goal
 
 abbrev pub invariant-loop-i : goal.invariant-loop-i

@@ -1,7 +1,6 @@
 -- `requests::cancel_paired` meets its contract.
 -- Assumes nothing.
 use Rattle.requests.proofs.StepReturns.{pair_ended, cancel_noted}
-use borrow.Author.Rules.{rules}
 use Rattle.requests.proofs.cancel_paired.Goals as goal
 
 pub returns-then-ends : goal.returns-then-ends

@@ -1,7 +1,6 @@
 -- `requests::does_pair_end` meets its contract.
 -- Assumes nothing.
 use Rattle.requests.proofs.StepReturns.{both_cancelled, taker_cancels, by_accepting}
-use borrow.Author.Rules.{rules}
 use Rattle.requests.proofs.does_pair_end.Goals as goal
 
 pub returns-then-get-eq1 : goal.returns-then-get-eq1

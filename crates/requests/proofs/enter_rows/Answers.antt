@@ -18,13 +18,12 @@ pub returns-then-j-ge256 : goal.returns-then-j-ge256
 returns-then-j-ge256 c = search entered_waiting
 
 pub join_exposure-requires-2 : goal.join_exposure-requires-2
-join_exposure-requires-2 c =
-    (
-      search rules,
-      search rules,
-      equal_room (state c.args.book.now) c.args.kind c.args.fields.now c.does_taker_follow.ensures c.if-does_taker_follow.false
-          c.earliest_equal-j.ensures c.if-j-ge256.false c.enter_with_equal.ensures c.requires.2,
-    )
+join_exposure-requires-2 c = (
+  search rules,
+  search rules,
+  equal_room (state c.args.book.now) c.args.kind c.args.fields.now c.does_taker_follow.ensures c.if-does_taker_follow.false
+      c.earliest_equal-j.ensures c.if-j-ge256.false c.enter_with_equal.ensures c.requires.2,
+)
 
 pub returns : goal.returns
 returns c = search entered_with_equal

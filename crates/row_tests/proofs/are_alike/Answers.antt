@@ -1,13 +1,8 @@
 -- `row_tests::are_alike` meets its contract: the tables below `f` passed.
 -- Assumes nothing.
-use Prim.Native.Nat.{◌+◌, ◌-◌, ◌≤◌}
 use native.Mathlib.Omega.{arith}
-use Rattle.laws.proofs.Least.{Rest, loop_fails, loop_passes, loop_ends}
-use Rattle.book.specs.State.{state}
-use Rattle.rules.specs.ByRow.{same}
-use Rattle.row_tests.specs.Rows.{alike}
+use Rattle.laws.proofs.Least.{loop_fails, loop_passes, loop_ends}
 use Rattle.row_tests.proofs.Returns.{loop_starts}
-use borrow.Author.Rules.{rules}
 use Rattle.row_tests.proofs.are_alike.Goals as goal
 
 pub loop-f-init : goal.loop-f-init

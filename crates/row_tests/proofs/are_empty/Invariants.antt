@@ -1,10 +1,8 @@
 -- `row_tests::are_empty` meets its contract: the bytes below `k` are seen.
 -- Assumes nothing.
 use Prim.Native.Nat.{◌-◌, ◌≤◌}
-use native.Mathlib.Omega.{arith}
 use lib.ListN.{length}
-use Rattle.row_tests.proofs.Empty.{Seen, seen_starts, seen_next, seen_ends}
-use borrow.Author.Rules.{rules}
+use Rattle.row_tests.proofs.Empty.{Seen}
 use Rattle.row_tests.proofs.are_empty.Given as goal
 
 abbrev pub invariant-loop-k : goal.invariant-loop-k

@@ -4,7 +4,6 @@ use Prim.Native.Nat.{◌+◌, ◌*◌, ◌≤◌}
 use native.Mathlib.Omega.{arith}
 use Rattle.book.specs.Layout.{book_length}
 use Rattle.row_tests.proofs.Empty.{rows_empty, rows_end}
-use borrow.Author.Rules.{rules}
 use Rattle.row_tests.proofs.are_rows_empty.Goals as goal
 use Rattle.row_tests.proofs.are_rows_empty.Goals.{After-base_of}
 

@@ -1,13 +1,10 @@
 -- `row_tests::is_blank` meets its contract: the tables below `f` passed.
 -- Assumes nothing.
 use Prim.Native.Nat.{◌+◌, ◌-◌, ◌≤◌}
-use native.Mathlib.Omega.{arith}
-use Rattle.laws.proofs.Least.{Rest, loop_fails, loop_passes, loop_ends}
+use Rattle.laws.proofs.Least.{Rest}
 use lib.Dec.{eqb}
 use Rattle.book.specs.State.{state}
 use Rattle.row_tests.specs.Rows.{blank}
-use Rattle.row_tests.proofs.Returns.{loop_starts}
-use borrow.Author.Rules.{rules}
 use Rattle.row_tests.proofs.is_blank.Given as goal
 
 abbrev pub invariant-loop-f : goal.invariant-loop-f

@@ -1,7 +1,6 @@
 -- `row_tests::is_same` meets its contract.
 -- Assumes nothing.
 use Rattle.row_tests.proofs.Returns.{by_two}
-use borrow.Author.Rules.{rules}
 use Rattle.row_tests.proofs.is_same.Goals as goal
 
 pub returns : goal.returns

@@ -1,7 +1,6 @@
 -- `row_tests::is_zero` meets its contract.
 -- Assumes nothing.
 use Rattle.row_tests.proofs.Returns.{by_one}
-use borrow.Author.Rules.{rules}
 use Rattle.row_tests.proofs.is_zero.Goals as goal
 
 pub returns : goal.returns

@@ -1,12 +1,8 @@
 -- `securities::are_nominals` meets its contract: those below `i` passed.
 -- Assumes nothing.
-use Prim.Native.Nat.{ℕ, ◌-◌, ◌≤◌}
 use mathlib.Core.Path.{refl}
 use native.Mathlib.Omega.{arith}
-use Rattle.laws.specs.Search.{all}
-use Rattle.laws.proofs.Least.{Rest, loop_fails, loop_passes, loop_ends}
-use Rattle.securities.specs.Position.{legal_nominal_at}
-use borrow.Author.Rules.{rules}
+use Rattle.laws.proofs.Least.{loop_fails, loop_passes, loop_ends}
 use Rattle.securities.proofs.are_nominals.Goals as goal
 
 pub loop-i-init : goal.loop-i-init

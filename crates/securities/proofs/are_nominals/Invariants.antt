@@ -1,12 +1,9 @@
 -- `securities::are_nominals` meets its contract: those below `i` passed.
 -- Assumes nothing.
-use Prim.Native.Nat.{ℕ, ◌-◌, ◌≤◌}
-use mathlib.Core.Path.{refl}
-use native.Mathlib.Omega.{arith}
+use Prim.Native.Nat.{◌-◌, ◌≤◌}
 use Rattle.laws.specs.Search.{all}
-use Rattle.laws.proofs.Least.{Rest, loop_fails, loop_passes, loop_ends}
+use Rattle.laws.proofs.Least.{Rest}
 use Rattle.securities.specs.Position.{legal_nominal_at}
-use borrow.Author.Rules.{rules}
 use Rattle.securities.proofs.are_nominals.Given as goal
 
 abbrev pub invariant-loop-i : goal.invariant-loop-i

@@ -1,7 +1,6 @@
 -- `securities::is_legal` meets its contract.
 -- Assumes nothing.
 use Rattle.securities.proofs.Legal.{blank, blank_price, blank_haircut, large_lot, by_pricing}
-use borrow.Author.Rules.{rules}
 use Rattle.securities.proofs.is_legal.Goals as goal
 
 pub returns-then-pricing-ne0 : goal.returns-then-pricing-ne0

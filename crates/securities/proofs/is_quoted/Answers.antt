@@ -1,7 +1,6 @@
 -- `securities::is_quoted` meets its contract.
 -- Assumes nothing.
 use Rattle.securities.proofs.Legal.{no_quote, quoted_today, late_quote, by_quote}
-use borrow.Author.Rules.{rules}
 use Rattle.securities.proofs.is_quoted.Goals as goal
 
 pub returns-then-s-eq0 : goal.returns-then-s-eq0

@@ -2,7 +2,6 @@
 -- Assumes nothing.
 use mathlib.Core.Path.{ap, ◌∙◌}
 use Rattle.securities.specs.Security.{legal_quote}
-use borrow.Author.Rules.{rules}
 use Rattle.securities.proofs.is_quoted_at.Goals as goal
 
 pub returns : goal.returns

@@ -1,6 +1,5 @@
 -- `securities::value_at` meets its contract: what is not held is worth nothing.
 -- Assumes nothing.
-use borrow.Author.Rules.{rules}
 use Rattle.valuation.proofs.Laws.{value_zero}
 use Rattle.securities.proofs.value_at.Goals as goal
 

@@ -1,13 +1,11 @@
 -- `securities::worth_of` meets its contract: the sum is that of the securities below `i`.
 -- Assumes nothing.
-use Prim.Native.Nat.{ℕ, ◌-◌, ◌≤◌}
-use mathlib.Core.Path.{◌≡◌, refl, ap, ◌∙◌}
+use mathlib.Core.Path.{◌≡◌, refl}
 use native.Mathlib.Omega.{arith}
 use Rattle.laws.specs.Sum.{sum}
 use Rattle.laws.proofs.Sum.{sum_next}
-use Rattle.securities.specs.Position.{worth, value_at, nominals_of}
+use Rattle.securities.specs.Position.{worth, nominals_of}
 use Rattle.securities.proofs.Positions.{value_at_le, sum_worth_le}
-use borrow.Author.Rules.{rules}
 use Rattle.securities.proofs.worth_of.Goals as goal
 
 pub loop-i-init : goal.loop-i-init

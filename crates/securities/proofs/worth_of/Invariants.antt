@@ -1,13 +1,9 @@
 -- `securities::worth_of` meets its contract: the sum is that of the securities below `i`.
 -- Assumes nothing.
-use Prim.Native.Nat.{ℕ, ◌-◌, ◌≤◌}
-use mathlib.Core.Path.{◌≡◌, refl, ap, ◌∙◌}
-use native.Mathlib.Omega.{arith}
+use Prim.Native.Nat.{◌-◌, ◌≤◌}
+use mathlib.Core.Path.{◌≡◌}
 use Rattle.laws.specs.Sum.{sum}
-use Rattle.laws.proofs.Sum.{sum_next}
-use Rattle.securities.specs.Position.{worth, value_at, nominals_of}
-use Rattle.securities.proofs.Positions.{value_at_le, sum_worth_le}
-use borrow.Author.Rules.{rules}
+use Rattle.securities.specs.Position.{value_at, nominals_of}
 use Rattle.securities.proofs.worth_of.Given as goal
 
 abbrev pub invariant-loop-i : goal.invariant-loop-i

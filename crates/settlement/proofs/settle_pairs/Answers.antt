@@ -1,14 +1,11 @@
 -- `settlement::settle_pairs` meets its contract: `n` pairs are tried, and what is left of the list leads to the same end.
 -- Assumes nothing.
-use mathlib.Core.Path.{sym, ◌∙◌, ◌≡◌}
-use mathlib.Core.List.{List}
-use Prim.Native.Nat.{ℕ, ◌-◌, ◌≤◌, ◌<◌}
+use mathlib.Core.Path.{sym, ◌∙◌}
+use Prim.Native.Nat.{ℕ}
 use native.Mathlib.Omega.{arith}
-use lib.ListN.{length, length-replicate}
+use lib.ListN.{length-replicate}
 use Rattle.eligibility.proofs.Fresh.{fresh_same}
-use Rattle.book.specs.Layout.{book_length}
-use Rattle.book.specs.State.{state}
-use Rattle.settlement.proofs.Passes.{within_room, Underway, underway_starts, underway_next, underway_done, underway_ends, next_pair, next_small}
+use Rattle.settlement.proofs.Passes.{within_room, underway_starts, underway_next, underway_done, underway_ends, next_pair, next_small}
 use borrow.Author.Rules.{rules}
 use Rattle.settlement.proofs.settle_pairs.Goals as goal
 

@@ -1,11 +1,9 @@
 -- `setup::clear` meets its contract: the bytes below `i` are 0.
 -- Assumes nothing.
-use mathlib.Core.Path.{◌≡◌, refl, ◌∙◌}
-use Prim.Native.Nat.{◌≤◌, ◌-◌}
+use mathlib.Core.Path.{refl, ◌∙◌}
 use native.Mathlib.Omega.{arith}
 use lib.ListN.{length, length-set}
-use Rattle.setup.proofs.Zeros.{ZeroTo, zero_next, zero_all}
-use borrow.Author.Rules.{rules}
+use Rattle.setup.proofs.Zeros.{zero_next, zero_all}
 use Rattle.setup.proofs.clear.Goals as goal
 
 pub loop-i-init : goal.loop-i-init

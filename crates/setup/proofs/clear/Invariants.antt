@@ -1,11 +1,9 @@
 -- `setup::clear` meets its contract: the bytes below `i` are 0.
 -- Assumes nothing.
-use mathlib.Core.Path.{◌≡◌, refl, ◌∙◌}
+use mathlib.Core.Path.{◌≡◌}
 use Prim.Native.Nat.{◌≤◌, ◌-◌}
-use native.Mathlib.Omega.{arith}
-use lib.ListN.{length, length-set}
-use Rattle.setup.proofs.Zeros.{ZeroTo, zero_next, zero_all}
-use borrow.Author.Rules.{rules}
+use lib.ListN.{length}
+use Rattle.setup.proofs.Zeros.{ZeroTo}
 use Rattle.setup.proofs.clear.Given as goal
 
 abbrev pub invariant-loop-i : goal.invariant-loop-i

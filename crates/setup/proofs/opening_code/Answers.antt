@@ -1,7 +1,6 @@
 -- `setup::opening_code` meets its contract.
 -- Assumes nothing.
 use Rattle.setup.proofs.Returns.{opening_open, opening_closed}
-use borrow.Author.Rules.{rules}
 use Rattle.setup.proofs.opening_code.Goals as goal
 
 pub returns-then-is_open : goal.returns-then-is_open

@@ -1,6 +1,5 @@
 -- `setup::price_code` meets its contract.
 -- Assumes nothing.
-use mathlib.Core.Logic.{⊎_elim}
 use Rattle.book.specs.State.{state}
 use Rattle.setup.proofs.Ranges.{price_in_lem}
 use Rattle.setup.proofs.Returns.{LotKept, first_lot, same_lot, other_lot, quote_closed, quote_late, price_accepted}
@@ -12,8 +11,8 @@ use Rattle.setup.proofs.price_code.Goals.{Joined-lot-ne0, then-lot-ne0+else-lot-
 lot_kept : (c : Joined-lot-ne0) → LotKept (state c.args.book.now) c.args.fields.now
 lot_kept c =
     elim c.if-lot-ne0.branch [
-      then-lot-ne0+else-lot-fields w ↦ same_lot (state c.args.book.now) c.args.fields.now c.get-lot.ensures w.if-lot-fields.false
-    | else-lot-ne0 w ↦ first_lot (state c.args.book.now) c.args.fields.now c.get-lot.ensures w.if-lot-ne0.false
+      | then-lot-ne0+else-lot-fields w ↦ same_lot (state c.args.book.now) c.args.fields.now c.get-lot.ensures w.if-lot-fields.false
+      | else-lot-ne0 w ↦ first_lot (state c.args.book.now) c.args.fields.now c.get-lot.ensures w.if-lot-ne0.false
     ]
 
 pub get-lot-requires : goal.get-lot-requires

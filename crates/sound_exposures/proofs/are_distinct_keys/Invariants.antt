@@ -1,15 +1,11 @@
 -- `sound_exposures::are_distinct_keys` meets its contract: those below `e` passed and are marked.
 -- Assumes nothing.
 use Prim.Native.Nat.{◌-◌, ◌≤◌}
-use mathlib.Core.Path.{refl}
-use native.Mathlib.Omega.{arith}
 use Rattle.laws.specs.Search.{all}
-use Rattle.laws.proofs.Least.{Rest, loop_fails, loop_passes, loop_ends}
+use Rattle.laws.proofs.Least.{Rest}
 use Rattle.book.specs.State.{state}
 use Rattle.rules.specs.ByRow.{distinct_key}
 use Rattle.sound_exposures.specs.Keys.{KeysMarked}
-use Rattle.sound_exposures.proofs.Keys.{keys_marked_none}
-use borrow.Author.Rules.{rules}
 use Rattle.sound_exposures.proofs.are_distinct_keys.Given as goal
 
 abbrev pub invariant-loop-e : goal.invariant-loop-e

@@ -2,7 +2,6 @@
 -- Assumes nothing.
 use Rattle.sound_exposures.proofs.Returns.{in_exposures, other_unused, by_key}
 use native.Mathlib.Omega.{arith}
-use borrow.Author.Rules.{rules}
 use Rattle.sound_exposures.proofs.has_other_key.Goals as goal
 
 pub returns-then-get-ne1 : goal.returns-then-get-ne1

@@ -1,14 +1,9 @@
 -- `sound_exposures::is_distinct_key` meets its contract: those below `d` have other keys.
 -- Assumes nothing.
-use Prim.Native.Nat.{ℕ, ◌-◌, ◌≤◌}
-use mathlib.Core.Path.{refl, ◌∙◌}
-use native.Mathlib.Omega.{arith}
-use Rattle.laws.specs.Search.{all}
-use Rattle.laws.proofs.Least.{Rest, loop_fails, loop_passes, loop_ends}
+use Prim.Native.Nat.{◌-◌, ◌≤◌}
+use Rattle.laws.proofs.Least.{Rest}
 use Rattle.book.specs.State.{state}
 use Rattle.rules.specs.ByRow.{other_key, distinct_key}
-use Rattle.sound_exposures.proofs.Returns.{no_key_lem, keys_of}
-use borrow.Author.Rules.{rules}
 use Rattle.sound_exposures.proofs.is_distinct_key.Given as goal
 
 abbrev pub invariant-loop-d : goal.invariant-loop-d

@@ -2,7 +2,6 @@
 -- Assumes nothing.
 use Rattle.sound_exposures.proofs.Keys.{key_not_marked}
 use Rattle.sound_exposures.proofs.Returns.{no_key_lem}
-use borrow.Author.Rules.{rules}
 use Rattle.sound_exposures.proofs.is_new_key.Goals as goal
 
 pub returns-then-get-eq0 : goal.returns-then-get-eq0

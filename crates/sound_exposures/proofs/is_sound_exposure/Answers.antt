@@ -2,7 +2,6 @@
 -- Assumes nothing.
 use Rattle.sound_exposures.proofs.Returns.{in_exposures, unused, bad_mark, bad_parties, bad_basket, bad_closing, by_amount}
 use native.Mathlib.Omega.{arith}
-use borrow.Author.Rules.{rules}
 use Rattle.sound_exposures.proofs.is_sound_exposure.Goals as goal
 
 pub is_blank-requires : goal.is_blank-requires

@@ -1,7 +1,6 @@
 -- `sound_exposures::mark_key` meets its contract.
 -- Assumes nothing.
 use Rattle.sound_exposures.proofs.Keys.{keys_marked_next}
-use borrow.Author.Rules.{rules}
 use Rattle.sound_exposures.proofs.mark_key.Goals as goal
 
 pub returns : goal.returns

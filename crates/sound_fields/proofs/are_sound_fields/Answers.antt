@@ -1,7 +1,6 @@
 -- `sound_fields::are_sound_fields` meets its contract.
 -- Assumes nothing.
 use Rattle.sound_fields.proofs.Returns.{late_number, bad_side, bad_parties, bad_kind, bad_settlement, by_marks}
-use borrow.Author.Rules.{rules}
 use Rattle.sound_fields.proofs.are_sound_fields.Goals as goal
 
 pub returns-then-next-q : goal.returns-then-next-q

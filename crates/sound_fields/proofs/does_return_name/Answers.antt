@@ -1,7 +1,6 @@
 -- `sound_fields::does_return_name` meets its contract.
 -- Assumes nothing.
 use Rattle.sound_fields.proofs.Returns.{names_none, names_unused, names_other, by_taker}
-use borrow.Author.Rules.{rules}
 use Rattle.sound_fields.proofs.does_return_name.Goals as goal
 
 pub returns-then-object-ge64 : goal.returns-then-object-ge64

@@ -1,7 +1,6 @@
 -- `sound_fields::is_sound_fop` meets its contract.
 -- Assumes nothing.
 use Rattle.sound_fields.proofs.Returns.{fop_basket, fop_amount_lem, by_closing}
-use borrow.Author.Rules.{rules}
 use Rattle.sound_fields.proofs.is_sound_fop.Goals as goal
 
 pub returns-then-not-is_basket_named : goal.returns-then-not-is_basket_named

@@ -1,7 +1,6 @@
 -- `sound_fields::is_sound_kind` meets its contract.
 -- Assumes nothing.
 use Rattle.sound_fields.proofs.Returns.{by_fop, by_return, no_kind}
-use borrow.Author.Rules.{rules}
 use Rattle.sound_fields.proofs.is_sound_kind.Goals as goal
 
 pub returns-then-q-eq6 : goal.returns-then-q-eq6

@@ -1,7 +1,6 @@
 -- `sound_fields::is_sound_return` meets its contract.
 -- Assumes nothing.
 use Rattle.sound_fields.proofs.Returns.{return_exposure, return_amount_lem, by_no_closing}
-use borrow.Author.Rules.{rules}
 use Rattle.sound_fields.proofs.is_sound_return.Goals as goal
 
 pub returns-then-not-does_return_name : goal.returns-then-not-does_return_name

@@ -1,13 +1,8 @@
 -- `sound_numbers::are_distinct_numbers` meets its contract: those below `i` passed and are marked.
 -- Assumes nothing.
-use Prim.Native.Nat.{◌-◌, ◌≤◌}
 use mathlib.Core.Path.{refl}
 use native.Mathlib.Omega.{arith}
-use Rattle.laws.specs.Search.{all}
-use Rattle.laws.proofs.Least.{Rest, loop_fails, loop_passes, loop_ends}
-use Rattle.book.specs.State.{state}
-use Rattle.rules.specs.ByRow.{distinct_number}
-use Rattle.sound_numbers.specs.Numbers.{Marked}
+use Rattle.laws.proofs.Least.{loop_fails, loop_passes, loop_ends}
 use Rattle.sound_numbers.proofs.Numbers.{marked_none}
 use borrow.Author.Rules.{rules}
 use Rattle.sound_numbers.proofs.are_distinct_numbers.Goals as goal

@@ -1,6 +1,5 @@
 -- `sound_numbers::differ` meets its contract.
 -- Assumes nothing.
-use borrow.Author.Rules.{rules}
 use Rattle.sound_numbers.proofs.differ.Goals as goal
 
 pub returns : goal.returns

@@ -1,12 +1,9 @@
 -- `sound_numbers::is_distinct_number` meets its contract: those below `j` have other numbers.
 -- Assumes nothing.
-use Prim.Native.Nat.{ℕ, ◌-◌, ◌≤◌}
 use native.Mathlib.Omega.{arith}
-use Rattle.laws.proofs.Least.{Rest, loop_fails, loop_passes, loop_ends}
+use Rattle.laws.proofs.Least.{loop_fails, loop_passes, loop_ends}
 use Rattle.book.specs.State.{state}
-use Rattle.rules.specs.ByRow.{differs, distinct_number}
 use Rattle.sound_numbers.proofs.Numbers.{no_number, numbers_of_lem}
-use borrow.Author.Rules.{rules}
 use Rattle.sound_numbers.proofs.is_distinct_number.Goals as goal
 
 pub returns-then-get-eq0 : goal.returns-then-get-eq0

@@ -1,12 +1,9 @@
 -- `sound_numbers::is_distinct_number` meets its contract: those below `j` have other numbers.
 -- Assumes nothing.
-use Prim.Native.Nat.{ℕ, ◌-◌, ◌≤◌}
-use native.Mathlib.Omega.{arith}
-use Rattle.laws.proofs.Least.{Rest, loop_fails, loop_passes, loop_ends}
+use Prim.Native.Nat.{◌-◌, ◌≤◌}
+use Rattle.laws.proofs.Least.{Rest}
 use Rattle.book.specs.State.{state}
 use Rattle.rules.specs.ByRow.{differs, distinct_number}
-use Rattle.sound_numbers.proofs.Numbers.{no_number, numbers_of_lem}
-use borrow.Author.Rules.{rules}
 use Rattle.sound_numbers.proofs.is_distinct_number.Given as goal
 
 abbrev pub invariant-loop-j : goal.invariant-loop-j

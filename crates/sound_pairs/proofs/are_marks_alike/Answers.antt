@@ -1,7 +1,6 @@
 -- `sound_pairs::are_marks_alike` meets its contract.
 -- Assumes nothing.
 use Rattle.sound_pairs.proofs.Returns.{other_settled, other_end, by_partial}
-use borrow.Author.Rules.{rules}
 use Rattle.sound_pairs.proofs.are_marks_alike.Goals as goal
 
 pub returns-then-q-settled : goal.returns-then-q-settled

@@ -2,7 +2,6 @@
 -- Assumes nothing.
 use Rattle.book.specs.State.{state}
 use Rattle.sound_pairs.proofs.Terms.{by_terms}
-use borrow.Author.Rules.{rules}
 use Rattle.sound_pairs.proofs.are_terms_alike.Goals as goal
 
 pub returns : goal.returns

@@ -1,7 +1,6 @@
 -- `sound_pairs::does_belong` meets its contract.
 -- Assumes nothing.
 use Rattle.sound_pairs.proofs.Returns.{return_belongs, by_exposure}
-use borrow.Author.Rules.{rules}
 use Rattle.sound_pairs.proofs.does_belong.Goals as goal
 
 pub returns-then-q-eq7 : goal.returns-then-q-eq7

@@ -1,7 +1,6 @@
 -- `sound_pairs::is_sound_pair` meets its contract.
 -- Assumes nothing.
 use Rattle.sound_pairs.proofs.Returns.{no_partner, not_named, same_side, other_kind, other_terms, by_pair_marks}
-use borrow.Author.Rules.{rules}
 use Rattle.sound_pairs.proofs.is_sound_pair.Goals as goal
 
 pub returns-then-j-ge256 : goal.returns-then-j-ge256

@@ -1,7 +1,6 @@
 -- `sound_pairs::is_sound_paired` meets its contract.
 -- Assumes nothing.
 use Rattle.sound_pairs.proofs.Returns.{bad_pair, by_belonging}
-use borrow.Author.Rules.{rules}
 use Rattle.sound_pairs.proofs.is_sound_paired.Goals as goal
 
 pub returns-then-not-is_sound_pair : goal.returns-then-not-is_sound_pair

@@ -1,7 +1,6 @@
 -- `sound_pairs::is_sound_rest` meets its contract.
 -- Assumes nothing.
 use Rattle.sound_pairs.proofs.Returns.{by_unpaired, by_paired}
-use borrow.Author.Rules.{rules}
 use Rattle.sound_pairs.proofs.is_sound_rest.Goals as goal
 
 pub returns-then-q-eq0 : goal.returns-then-q-eq0

@@ -1,15 +1,8 @@
 -- `sound_requests::are_each_sound` meets its contract: those below `i` passed, and the days at hand are open.
 -- Assumes nothing.
-use Prim.Native.Nat.{◌+◌, ◌*◌, ◌-◌, ◌≤◌}
-use mathlib.Core.Path.{◌≡◌}
 use native.Mathlib.Omega.{arith}
-use Rattle.laws.specs.Search.{all}
-use Rattle.laws.proofs.Least.{Rest, loop_fails, loop_passes, loop_ends}
-use Rattle.book.specs.State.{state}
-use Rattle.rules.specs.ByRow.{sound_row}
-use Rattle.open_days.specs.Days.{OpenDays}
+use Rattle.laws.proofs.Least.{loop_fails, loop_passes, loop_ends}
 use Rattle.sound_setup.proofs.Returns.{passed}
-use Rattle.sound_requests.specs.Rows.{Passed}
 use Rattle.sound_requests.proofs.Blocks.{sixteen_starts}
 use Rattle.sound_requests.proofs.Later.{passed_next}
 use borrow.Author.Rules.{rules}

@@ -2,17 +2,12 @@
 -- Assumes nothing.
 use Prim.Native.Nat.{◌+◌, ◌*◌, ◌-◌, ◌≤◌}
 use mathlib.Core.Path.{◌≡◌}
-use native.Mathlib.Omega.{arith}
 use Rattle.laws.specs.Search.{all}
-use Rattle.laws.proofs.Least.{Rest, loop_fails, loop_passes, loop_ends}
+use Rattle.laws.proofs.Least.{Rest}
 use Rattle.book.specs.State.{state}
 use Rattle.rules.specs.ByRow.{sound_row}
 use Rattle.open_days.specs.Days.{OpenDays}
-use Rattle.sound_setup.proofs.Returns.{passed}
 use Rattle.sound_requests.specs.Rows.{Passed}
-use Rattle.sound_requests.proofs.Blocks.{sixteen_starts}
-use Rattle.sound_requests.proofs.Later.{passed_next}
-use borrow.Author.Rules.{rules}
 use Rattle.sound_requests.proofs.are_each_sound.Given as goal
 
 abbrev pub invariant-loop-i : goal.invariant-loop-i

@@ -1,6 +1,5 @@
 -- `sound_requests::are_sixteen_sound` meets its contract.
 -- Assumes nothing.
-use native.Mathlib.Omega.{arith}
 use Rattle.sound_requests.proofs.Blocks.{by_tables}
 use borrow.Author.Rules.{rules}
 use Rattle.sound_requests.proofs.are_sixteen_sound.Goals as goal

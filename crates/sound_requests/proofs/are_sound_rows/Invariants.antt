@@ -1,18 +1,12 @@
 -- `sound_requests::are_sound_rows` meets its contract: those below `16 * k` passed, and the days at hand are open.
 -- Assumes nothing.
 use Prim.Native.Nat.{◌*◌, ◌-◌, ◌≤◌}
-use mathlib.Core.Path.{refl}
-use native.Mathlib.Omega.{arith}
 use Rattle.laws.specs.Search.{all}
 use Rattle.laws.proofs.Least.{Rest}
 use Rattle.book.specs.State.{state}
 use Rattle.rules.specs.ByRow.{sound_row}
 use Rattle.open_days.specs.Days.{OpenDays}
-use Rattle.open_days.proofs.Days.{days_start}
 use Rattle.sound_requests.specs.Rows.{Passed}
-use Rattle.sound_requests.proofs.Blocks.{sixteen_fail, sixteen_pass, sixteens_end}
-use Rattle.sound_requests.proofs.Later.{passed_none, passed_sixteen}
-use borrow.Author.Rules.{rules}
 use Rattle.sound_requests.proofs.are_sound_rows.Given as goal
 
 abbrev pub invariant-loop-k : goal.invariant-loop-k

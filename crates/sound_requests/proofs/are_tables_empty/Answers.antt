@@ -1,13 +1,8 @@
 -- `sound_requests::are_tables_empty` meets its contract: the tables below `f` passed.
 -- Assumes nothing.
-use Prim.Native.Nat.{◌+◌, ◌*◌, ◌-◌, ◌≤◌}
 use native.Mathlib.Omega.{arith}
-use Rattle.laws.proofs.Least.{Rest, loop_fails, loop_passes, loop_ends}
-use Rattle.book.specs.State.{state}
-use Rattle.row_tests.specs.Bytes.{empty_rows}
+use Rattle.laws.proofs.Least.{loop_fails, loop_passes, loop_ends}
 use Rattle.row_tests.proofs.Returns.{loop_starts}
-use Rattle.sound_requests.specs.Rows.{empty_tables}
-use borrow.Author.Rules.{rules}
 use Rattle.sound_requests.proofs.are_tables_empty.Goals as goal
 
 pub loop-f-init : goal.loop-f-init

@@ -1,13 +1,10 @@
 -- `sound_requests::are_tables_empty` meets its contract: the tables below `f` passed.
 -- Assumes nothing.
 use Prim.Native.Nat.{◌+◌, ◌*◌, ◌-◌, ◌≤◌}
-use native.Mathlib.Omega.{arith}
-use Rattle.laws.proofs.Least.{Rest, loop_fails, loop_passes, loop_ends}
+use Rattle.laws.proofs.Least.{Rest}
 use Rattle.book.specs.State.{state}
 use Rattle.row_tests.specs.Bytes.{empty_rows}
-use Rattle.row_tests.proofs.Returns.{loop_starts}
 use Rattle.sound_requests.specs.Rows.{empty_tables}
-use borrow.Author.Rules.{rules}
 use Rattle.sound_requests.proofs.are_tables_empty.Given as goal
 
 abbrev pub invariant-loop-f : goal.invariant-loop-f

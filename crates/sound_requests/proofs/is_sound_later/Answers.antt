@@ -1,7 +1,6 @@
 -- `sound_requests::is_sound_later` meets its contract.
 -- Assumes nothing.
 use Rattle.sound_requests.proofs.Later.{later_not_named, later_number, by_cancel}
-use borrow.Author.Rules.{rules}
 use Rattle.sound_requests.proofs.is_sound_later.Goals as goal
 
 pub returns-then-get-i : goal.returns-then-get-i

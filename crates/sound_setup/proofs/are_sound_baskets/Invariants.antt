@@ -1,13 +1,10 @@
 -- `sound_setup::are_sound_baskets` meets its contract: those below `b` passed.
 -- Assumes nothing.
 use Prim.Native.Nat.{◌-◌, ◌≤◌}
-use mathlib.Core.Path.{refl}
-use native.Mathlib.Omega.{arith}
 use Rattle.laws.specs.Search.{all}
-use Rattle.laws.proofs.Least.{Rest, loop_fails, loop_passes, loop_ends}
+use Rattle.laws.proofs.Least.{Rest}
 use Rattle.book.specs.State.{state}
 use Rattle.rules.specs.ByRow.{sound_basket}
-use borrow.Author.Rules.{rules}
 use Rattle.sound_setup.proofs.are_sound_baskets.Given as goal
 
 abbrev pub invariant-loop-b : goal.invariant-loop-b

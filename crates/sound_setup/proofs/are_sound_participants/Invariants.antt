@@ -1,13 +1,10 @@
 -- `sound_setup::are_sound_participants` meets its contract: those below `p` passed.
 -- Assumes nothing.
 use Prim.Native.Nat.{◌-◌, ◌≤◌}
-use mathlib.Core.Path.{refl}
-use native.Mathlib.Omega.{arith}
 use Rattle.laws.specs.Search.{all}
-use Rattle.laws.proofs.Least.{Rest, loop_fails, loop_passes, loop_ends}
+use Rattle.laws.proofs.Least.{Rest}
 use Rattle.book.specs.State.{state}
 use Rattle.rules.specs.ByRow.{sound_participant}
-use borrow.Author.Rules.{rules}
 use Rattle.sound_setup.proofs.are_sound_participants.Given as goal
 
 abbrev pub invariant-loop-p : goal.invariant-loop-p

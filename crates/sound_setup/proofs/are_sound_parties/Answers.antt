@@ -3,7 +3,6 @@
 use native.Mathlib.Omega.{arith}
 use Rattle.book.specs.State.{state}
 use Rattle.sound_setup.proofs.Returns.{no_giver, no_taker, giver_blank, taker_blank, by_parties}
-use borrow.Author.Rules.{rules}
 use Rattle.sound_setup.proofs.are_sound_parties.Goals as goal
 
 pub returns-then-giver-ge32 : goal.returns-then-giver-ge32

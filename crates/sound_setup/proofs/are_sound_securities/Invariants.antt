@@ -1,16 +1,11 @@
 -- `sound_setup::are_sound_securities` meets its contract: those below `i` passed, and the days at hand are open.
 -- Assumes nothing.
 use Prim.Native.Nat.{◌-◌, ◌≤◌}
-use mathlib.Core.Path.{refl}
-use native.Mathlib.Omega.{arith}
 use Rattle.laws.specs.Search.{all}
-use Rattle.laws.proofs.Least.{Rest, loop_fails, loop_passes, loop_ends}
+use Rattle.laws.proofs.Least.{Rest}
 use Rattle.book.specs.State.{state}
 use Rattle.rules.specs.ByRow.{sound_security}
 use Rattle.open_days.specs.Days.{OpenDays}
-use Rattle.open_days.proofs.Days.{days_start}
-use Rattle.sound_setup.proofs.Returns.{passed}
-use borrow.Author.Rules.{rules}
 use Rattle.sound_setup.proofs.are_sound_securities.Given as goal
 
 abbrev pub invariant-loop-i : goal.invariant-loop-i

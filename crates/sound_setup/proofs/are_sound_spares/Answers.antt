@@ -1,7 +1,6 @@
 -- `sound_setup::are_sound_spares` meets its contract.
 -- Assumes nothing.
 use Rattle.sound_setup.proofs.Returns.{by_spares}
-use borrow.Author.Rules.{rules}
 use Rattle.sound_setup.proofs.are_sound_spares.Goals as goal
 
 pub returns : goal.returns

@@ -1,7 +1,6 @@
 -- `sound_setup::is_basket_named` meets its contract.
 -- Assumes nothing.
 use Rattle.sound_setup.proofs.Returns.{no_basket_lem, by_map}
-use borrow.Author.Rules.{rules}
 use Rattle.sound_setup.proofs.is_basket_named.Goals as goal
 
 pub returns-then-b-ge16 : goal.returns-then-b-ge16

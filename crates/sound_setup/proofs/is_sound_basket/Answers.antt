@@ -1,7 +1,6 @@
 -- `sound_setup::is_sound_basket` meets its contract.
 -- Assumes nothing.
 use Rattle.sound_setup.proofs.Returns.{blank_basket, by_age}
-use borrow.Author.Rules.{rules}
 use Rattle.sound_setup.proofs.is_sound_basket.Goals as goal
 
 pub returns-then-get-eq0 : goal.returns-then-get-eq0

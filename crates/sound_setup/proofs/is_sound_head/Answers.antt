@@ -1,7 +1,6 @@
 -- `sound_setup::is_sound_head` meets its contract.
 -- Assumes nothing.
 use Rattle.sound_setup.proofs.Returns.{closed_head, tolerance_head, by_number}
-use borrow.Author.Rules.{rules}
 use Rattle.sound_setup.proofs.is_sound_head.Goals as goal
 
 pub returns-then-not-is_open : goal.returns-then-not-is_open

@@ -2,7 +2,6 @@
 -- Assumes nothing.
 use Rattle.book.specs.State.{state}
 use Rattle.sound_setup.proofs.Returns.{InForce, Waits, in_force_fails, in_force_passes, waits_fails, waits_passes, by_mode, by_waiting}
-use borrow.Author.Rules.{rules}
 use Rattle.sound_setup.proofs.is_sound_participant.Goals as goal
 use Rattle.sound_setup.proofs.is_sound_participant.Goals.{Else-not-is_sound_profile, Else-not-is_sound_profile-2}
 

@@ -1,7 +1,6 @@
 -- `sound_setup::is_sound_security` meets its contract.
 -- Assumes nothing.
 use Rattle.sound_setup.proofs.Returns.{blank_price, blank_haircut, blank_security, large_lot, wide_price, large_haircut, by_quote}
-use borrow.Author.Rules.{rules}
 use Rattle.sound_setup.proofs.is_sound_security.Goals as goal
 
 pub returns-then-price-ne0 : goal.returns-then-price-ne0

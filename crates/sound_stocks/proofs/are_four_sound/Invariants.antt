@@ -2,11 +2,8 @@
 -- Assumes nothing.
 use Prim.Native.Nat.{◌+◌, ◌*◌, ◌-◌, ◌≤◌, ◌<◌}
 use mathlib.Core.Path.{◌≡◌}
-use native.Mathlib.Omega.{arith}
 use Rattle.book.specs.State.{state}
 use Rattle.sound_stocks.specs.Stocks.{Adding}
-use Rattle.sound_stocks.proofs.Stocks.{four_nothing, four_ends, judged_fails, judged_passes}
-use borrow.Author.Rules.{rules}
 use Rattle.sound_stocks.proofs.are_four_sound.Given as goal
 
 abbrev pub invariant-loop-i : goal.invariant-loop-i

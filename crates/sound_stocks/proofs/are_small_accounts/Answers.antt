@@ -1,13 +1,8 @@
 -- `sound_stocks::are_small_accounts` meets its contract: those below `p` passed.
 -- Assumes nothing.
-use Prim.Native.Nat.{◌-◌, ◌≤◌}
 use mathlib.Core.Path.{refl}
 use native.Mathlib.Omega.{arith}
-use Rattle.laws.specs.Search.{all}
-use Rattle.laws.proofs.Least.{Rest, loop_fails, loop_passes, loop_ends}
-use Rattle.book.specs.State.{state}
-use Rattle.sound_stocks.specs.Stocks.{small_accounts}
-use borrow.Author.Rules.{rules}
+use Rattle.laws.proofs.Least.{loop_fails, loop_passes, loop_ends}
 use Rattle.sound_stocks.proofs.are_small_accounts.Goals as goal
 
 pub loop-p-init : goal.loop-p-init

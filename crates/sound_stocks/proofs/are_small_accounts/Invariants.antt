@@ -1,13 +1,10 @@
 -- `sound_stocks::are_small_accounts` meets its contract: those below `p` passed.
 -- Assumes nothing.
 use Prim.Native.Nat.{◌-◌, ◌≤◌}
-use mathlib.Core.Path.{refl}
-use native.Mathlib.Omega.{arith}
 use Rattle.laws.specs.Search.{all}
-use Rattle.laws.proofs.Least.{Rest, loop_fails, loop_passes, loop_ends}
+use Rattle.laws.proofs.Least.{Rest}
 use Rattle.book.specs.State.{state}
 use Rattle.sound_stocks.specs.Stocks.{small_accounts}
-use borrow.Author.Rules.{rules}
 use Rattle.sound_stocks.proofs.are_small_accounts.Given as goal
 
 abbrev pub invariant-loop-p : goal.invariant-loop-p

@@ -1,13 +1,9 @@
 -- `sound_stocks::are_small_accounts_of` meets its contract: those below `i` passed.
 -- Assumes nothing.
 use Prim.Native.Nat.{◌-◌, ◌≤◌}
-use mathlib.Core.Path.{refl}
-use native.Mathlib.Omega.{arith}
-use Rattle.laws.proofs.Least.{Rest, loop_fails, loop_passes, loop_ends}
+use Rattle.laws.proofs.Least.{Rest}
 use Rattle.book.specs.State.{state}
 use Rattle.sound_stocks.specs.Stocks.{small_account, small_accounts}
-use Rattle.sound_stocks.proofs.Stocks.{account_nothing}
-use borrow.Author.Rules.{rules}
 use Rattle.sound_stocks.proofs.are_small_accounts_of.Given as goal
 
 abbrev pub invariant-loop-i : goal.invariant-loop-i

@@ -1,11 +1,8 @@
 -- `sound_stocks::are_sound_nominals` meets its contract: the nominals below `4 * k` are added.
 -- Assumes nothing.
 use Prim.Native.Nat.{◌*◌, ◌-◌, ◌≤◌}
-use native.Mathlib.Omega.{arith}
 use Rattle.book.specs.State.{state}
 use Rattle.sound_stocks.specs.Stocks.{Adding}
-use Rattle.sound_stocks.proofs.Stocks.{adding_starts, adding_ends, judged_fails, judged_passes}
-use borrow.Author.Rules.{rules}
 use Rattle.sound_stocks.proofs.are_sound_nominals.Given as goal
 
 abbrev pub invariant-loop-k : goal.invariant-loop-k

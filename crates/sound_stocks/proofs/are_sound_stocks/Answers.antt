@@ -1,14 +1,7 @@
 -- `sound_stocks::are_sound_stocks` meets its contract: the exposures below `e` are added.
 -- Assumes nothing.
-use Prim.Native.Nat.{◌-◌, ◌≤◌}
-use mathlib.Core.Bool.{true}
-use mathlib.Core.Path.{◌≡◌}
 use native.Mathlib.Omega.{arith}
-use Rattle.laws.specs.Search.{all}
-use Rattle.book.specs.State.{state}
-use Rattle.rules.specs.ByRow.{sound_exposure}
 use Rattle.facts.proofs.Truth.{below}
-use Rattle.sound_stocks.specs.Stocks.{Held}
 use Rattle.sound_stocks.proofs.Stocks.{accounts_fail, held_starts, held_ends, judged_ends, judged_passes}
 use borrow.Author.Rules.{rules}
 use Rattle.sound_stocks.proofs.are_sound_stocks.Goals as goal

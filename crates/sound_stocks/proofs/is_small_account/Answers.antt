@@ -1,7 +1,6 @@
 -- `sound_stocks::is_small_account` meets its contract.
 -- Assumes nothing.
 use Rattle.sound_stocks.proofs.Stocks.{by_account}
-use borrow.Author.Rules.{rules}
 use Rattle.sound_stocks.proofs.is_small_account.Goals as goal
 
 pub returns : goal.returns

@@ -4,7 +4,6 @@ use native.Mathlib.Omega.{arith}
 use Rattle.book.specs.State.{state}
 use Rattle.book.proofs.Images.{state_fits}
 use Rattle.sound_stocks.proofs.Stocks.{nominal_nothing, nominal_not_whole, nominal_too_much, nominal_added, nominal_small}
-use borrow.Author.Rules.{rules}
 use Rattle.sound_stocks.proofs.is_sound_nominal.Goals as goal
 
 pub returns-then-nominal-eq0 : goal.returns-then-nominal-eq0

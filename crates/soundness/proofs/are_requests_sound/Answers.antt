@@ -1,7 +1,6 @@
 -- `soundness::are_requests_sound` meets its contract.
 -- Assumes nothing.
 use Rattle.soundness.proofs.Returns.{first, after}
-use borrow.Author.Rules.{rules}
 use Rattle.soundness.proofs.are_requests_sound.Goals as goal
 
 pub returns-then-not-are_sound_rows : goal.returns-then-not-are_sound_rows

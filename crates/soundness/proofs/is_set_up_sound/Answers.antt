@@ -1,7 +1,6 @@
 -- `soundness::is_set_up_sound` meets its contract.
 -- Assumes nothing.
 use Rattle.soundness.proofs.Returns.{first, after}
-use borrow.Author.Rules.{rules}
 use Rattle.soundness.proofs.is_set_up_sound.Goals as goal
 
 pub returns-then-not-is_sound_head : goal.returns-then-not-is_sound_head

@@ -4,7 +4,6 @@ use Rattle.soundness.proofs.Returns.{first, after}
 use mathlib.Core.Path.{◌∙◌}
 use Rattle.rules.specs.ByRow.{sound_by_row}
 use Rattle.facts.proofs.Written.{by_row}
-use borrow.Author.Rules.{rules}
 use Rattle.soundness.proofs.is_sound.Goals as goal
 
 pub returns-then-not-is_set_up_sound : goal.returns-then-not-is_set_up_sound

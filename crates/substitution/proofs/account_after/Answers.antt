@@ -2,7 +2,6 @@
 -- Assumes nothing.
 use native.Mathlib.Omega.{arith}
 use Rattle.substitution.proofs.Accepting.{ranges_of, exposure_in, security_in, giver_in_lem, account_small}
-use borrow.Author.Rules.{rules}
 use Rattle.substitution.proofs.account_after.Goals as goal
 
 pub get-giver-requires : goal.get-giver-requires

@@ -1,13 +1,9 @@
 -- `substitution::add_nominals` meets its contract: the sums below `i` are made.
 -- Assumes nothing.
 use mathlib.Core.Path.{◌≡◌, refl}
-use Prim.Native.Nat.{◌+◌, ◌-◌, ◌≤◌}
 use native.Mathlib.Omega.{arith}
-use lib.ListN.{get_or}
-use Rattle.laws.specs.Filled.{filled}
 use Rattle.laws.proofs.Filled.{filled_first, filled_next}
 use Rattle.substitution.proofs.Accepting.{sum_small}
-use borrow.Author.Rules.{rules}
 use Rattle.substitution.proofs.add_nominals.Goals as goal
 
 pub loop-i-init : goal.loop-i-init

@@ -1,13 +1,9 @@
 -- `substitution::add_nominals` meets its contract: the sums below `i` are made.
 -- Assumes nothing.
-use mathlib.Core.Path.{◌≡◌, refl}
+use mathlib.Core.Path.{◌≡◌}
 use Prim.Native.Nat.{◌+◌, ◌-◌, ◌≤◌}
-use native.Mathlib.Omega.{arith}
 use lib.ListN.{get_or}
 use Rattle.laws.specs.Filled.{filled}
-use Rattle.laws.proofs.Filled.{filled_first, filled_next}
-use Rattle.substitution.proofs.Accepting.{sum_small}
-use borrow.Author.Rules.{rules}
 use Rattle.substitution.proofs.add_nominals.Given as goal
 
 abbrev pub invariant-loop-i : goal.invariant-loop-i

@@ -4,7 +4,6 @@ use native.Mathlib.Omega.{arith}
 use Rattle.book.specs.State.{state}
 use Rattle.substitution.proofs.Accepting.{exposure_in, book_of, tolerance_in, accepted_above, accepted_else}
 use Rattle.bonds.proofs.Rows.{bounded, row_within}
-use borrow.Author.Rules.{rules}
 use Rattle.substitution.proofs.is_accepted.Goals as goal
 
 pub get-requires : goal.get-requires

@@ -2,7 +2,6 @@
 -- Assumes nothing.
 use native.Mathlib.Omega.{arith}
 use Rattle.substitution.proofs.Accepting.{exposure_in, security_in, position_enough}
-use borrow.Author.Rules.{rules}
 use Rattle.substitution.proofs.position_left.Goals as goal
 
 pub overflow_mul-fields : goal.overflow_mul-fields

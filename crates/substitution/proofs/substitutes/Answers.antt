@@ -4,7 +4,6 @@ use mathlib.Core.Path.{refl}
 use native.Mathlib.Omega.{arith}
 use Rattle.substitution.proofs.Accepting.{exposure_in, book_of, left_within, after_within, substitutes_found}
 use Rattle.bonds.proofs.Rows.{bounded, basket_below, oldest_le}
-use borrow.Author.Rules.{rules}
 use Rattle.substitution.proofs.substitutes.Goals as goal
 
 pub worth_of-value-requires : goal.worth_of-value-requires

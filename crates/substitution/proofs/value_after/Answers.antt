@@ -4,7 +4,6 @@ use Rattle.substitution.proofs.Accepting.{book_of, sum_within, value_found, wort
 use Rattle.bonds.proofs.Rows.{bounded}
 use Rattle.securities.specs.Position.{nominals_of}
 use Rattle.securities.specs.Bounds.{Within}
-use borrow.Author.Rules.{rules}
 use Rattle.substitution.proofs.value_after.Goals as goal
 use Rattle.substitution.proofs.value_after.Goals.{After-position-1}
 

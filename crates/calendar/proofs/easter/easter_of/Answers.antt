@@ -1,7 +1,6 @@
 -- `calendar::easter_of` meets its contract: the table is right.
 -- Assumes nothing.
 use Rattle.calendar.proofs.EasterTable.{table, table_right}
-use borrow.Author.Rules.{rules}
 use Rattle.calendar.proofs.easter.easter_of.Goals as goal
 
 pub returns : goal.returns
