@@ -1,6 +1,6 @@
 -- The largest nominal worth no more than an amount: what it says of each nominal, and that one division finds it.
 -- Assumes nothing.
-use mathlib.Core.Path.{◌≡◌, refl, sym, ◌∙◌}
+use mathlib.Core.Path.{◌≡◌}
 use mathlib.Core.Bool.{Bool, true, false}
 use mathlib.Core.Logic.{inr}
 use Prim.Native.Nat.{ℕ, ◌+◌, ◌*◌, ◌-◌, ◌/◌, ◌≤◌, ◌<◌}
@@ -8,7 +8,6 @@ use native.Mathlib.Nat.{le_refl, mul_assoc, mul-le-mul, mul-pos, lt_of_lt_of_le,
 use native.Mathlib.Omega.{arith}
 use lib.Dec.{leb, leb-zero}
 use borrow.Author.Tests.{leb-true, leb-false, le-leb, lt-leb}
-use Rattle.laws.specs.Search.{largest}
 use Rattle.laws.proofs.Largest.{Falling, largest_unique, largest_le, largest_most, falling_below}
 use Rattle.valuation.specs.declared.Pricing.{Pricing}
 use Rattle.valuation.specs.Value.{value}

@@ -3,7 +3,7 @@
 use mathlib.Core.Path.{◌≡◌, sym, ◌∙◌}
 use mathlib.Core.Bool.{Bool, true, false, not, ◌&&◌}
 use Prim.Native.Nat.{ℕ, ◌*◌, ◌-◌, ◌/◌, ◌≤◌, ◌<◌}
-use native.Mathlib.Nat.{mul-le-mul, mul-le-mul_right, mul_assoc, zero-mul, le_trans, le-div_iff_mul-le, div-mul-le_self}
+use native.Mathlib.Nat.{mul-le-mul, mul-le-mul_right, zero-mul, le_trans, le-div_iff_mul-le, div-mul-le_self}
 use native.Mathlib.Omega.{arith}
 use lib.Dec.{lit<, leb}
 use borrow.Author.Tests.{leb-true, not-false}

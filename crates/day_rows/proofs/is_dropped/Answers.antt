@@ -4,10 +4,10 @@ use borrow.Author.Rules.{rules}
 use Rattle.day_rows.proofs.is_dropped.Goals as goal
 
 pub returns-in-Done : goal.returns-in-Done
-returns-in-Done c = rw c.enum_told-1.given.1 c.is_done.ensures
+returns-in-Done c = rw c.in-Done.is c.is_done.ensures
 
 pub returns-in-ClosedFops : goal.returns-in-ClosedFops
-returns-in-ClosedFops c = rw c.enum_told-in-ClosedFops-1.given.1 c.is_closed_fop.ensures
+returns-in-ClosedFops c = rw c.in-ClosedFops.is c.is_closed_fop.ensures
 
 pub returns-in-ClosedReturns : goal.returns-in-ClosedReturns
-returns-in-ClosedReturns c = rw c.enum_told-in-ClosedReturns-1.given.1 c.is_closed_return.ensures
+returns-in-ClosedReturns c = rw c.in-ClosedReturns.is c.is_closed_return.ensures

@@ -7,10 +7,14 @@ use borrow.Author.Rules.{rules}
 use Rattle.engine.proofs.engine_call.Goals as goal
 
 pub returns-then-damaged-ne0 : goal.returns-then-damaged-ne0
-returns-then-damaged-ne0 c = damage_refused _ _ c.damage_code-damaged.ensures c.if-damaged-ne0.true
+returns-then-damaged-ne0 c =
+    let r = damage_refused _ _ c.damage_code-damaged.ensures c.if-damaged-ne0.true in
+    record { book_after = r.0; answer_after = r.1 }
 
 pub returns-then-reading-ne0 : goal.returns-then-reading-ne0
-returns-then-reading-ne0 c = reader_refuses _ _ c.damage_code-damaged.ensures c.if-damaged-ne0.false _ c.records_read-reading.ensures c.if-reading-ne0.true
+returns-then-reading-ne0 c =
+    let r = reader_refuses _ _ c.damage_code-damaged.ensures c.if-damaged-ne0.false _ c.records_read-reading.ensures c.if-reading-ne0.true in
+    record { book_after = r.0; answer_after = r.1 }
 
 pub code_of-code-requires : goal.code_of-code-requires
 code_of-code-requires c = search taken_record
@@ -18,12 +22,13 @@ code_of-code-requires c = search taken_record
 pub returns-then-code-ne0 : goal.returns-then-code-ne0
 returns-then-code-ne0 c =
     let reading = c.records_read-reading in
-    rules_refuse _ _ c.damage_code-damaged.ensures c.if-damaged-ne0.false reading.result reading.ensures c.if-reading-ne0.false c.code_of-code.ensures c.if-code-ne0.true
+    let r = rules_refuse _ _ c.damage_code-damaged.ensures c.if-damaged-ne0.false reading.result reading.ensures c.if-reading-ne0.false c.code_of-code.ensures c.if-code-ne0.true in
+    record { book_after = r.0; answer_after = r.1 }
 
 pub take_step-totals-requires : goal.take_step-totals-requires
 take_step-totals-requires c = search accepted_record
 
 pub returns : goal.returns
 returns c =
-    let small : (i : ℕ) → get_or c.take_step-totals.new.0 i 0 < 256 = λ i. (c.slice_known-2-1.given i).fits in
-    (search accepted_book, search accepted_answer)
+    let small : (i : ℕ) → get_or c.take_step-totals.new.book i 0 < 256 = λ i. (c.slice_known-2-1.given i).fits in
+    record { book_after = search accepted_book; answer_after = search accepted_answer }

@@ -11,14 +11,14 @@ use Rattle.line_text.proofs.put_digits.Goals as goal
 
 pub loop-i-init : goal.loop-i-init
 loop-i-init c =
-    let sized : length c.args.t3 ≡ 20 = search rules in
+    let sized : length c.args.digits ≡ 20 = search rules in
     (omega arith, omega arith, sized, refl, text_none c.args.lines.now c.args.at)
 
 pub loop-i-preserved : goal.loop-i-preserved
 loop-i-preserved c =
     let s = c.args in
     let l = c.loop-i in
-    (omega arith, omega arith, l.invariant.2, simp length-set l.invariant.3, rw l.invariant.4 (text_digit s.lines.now s.t3 s.at l.i (omega arith) (omega arith)))
+    (omega arith, omega arith, l.invariant.2, simp length-set l.invariant.3, rw l.invariant.4 (text_digit s.lines.now s.digits s.at l.i (omega arith) (omega arith)))
 
 pub returns : goal.returns
 returns c =

@@ -11,4 +11,4 @@ returns-then-rest-eq0 c =
 pub returns : goal.returns
 returns c =
     let line = c.put_line in
-    last_put c.args.lines.now line.new.0 c.args.place line.result c.args.rest.now c.if-rest-eq0.false c.requires line.ensures
+    last_put c.args.lines.now line.new.lines c.args.place line.result c.args.rest.now c.if-rest-eq0.false c.requires line.ensures

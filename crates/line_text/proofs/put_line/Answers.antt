@@ -15,4 +15,4 @@ returns c =
     let fifth = c.put_number-e in
     let sixth = c.put_number in
     rw kind.ensures at
-    (line_put c.args.lines.now first.new.0 second.new.0 third.new.0 fourth.new.0 fifth.new.0 sixth.new.0 c.args.at first.result second.result third.result fourth.result fifth.result sixth.result c.args.place kind.result (answer_of c.args.answer.now) first.ensures second.ensures third.ensures fourth.ensures fifth.ensures sixth.ensures c.requires)
+    (line_put c.args.lines.now first.new.lines second.new.lines third.new.lines fourth.new.lines fifth.new.lines sixth.new.lines c.args.at first.result second.result third.result fourth.result fifth.result sixth.result c.args.place kind.result (answer_of c.args.answer.now) first.ensures second.ensures third.ensures fourth.ensures fifth.ensures sixth.ensures c.requires)

@@ -8,4 +8,4 @@ pub returns : goal.returns
 returns c =
     let made = c.decimal-count in
     let done = c.put_digits-end in
-    number_put c.args.lines.now made.new.1.0 c.args.at c.args.number c.args.after made.result done.result made.ensures.1.0 made.ensures.1.1 made.ensures.0.0 done.ensures.0 done.ensures.1 done.ensures.2 c.requires
+    number_put c.args.lines.now made.new.out c.args.at c.args.number c.args.after made.result done.result made.ensures.len made.ensures.digits made.ensures.in_bounds.0 done.ensures.0 done.ensures.1 done.ensures.2 c.requires

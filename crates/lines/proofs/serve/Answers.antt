@@ -18,7 +18,7 @@ returns-then-n-eq0 c =
     let l = c.loop-p in
     let w = l.invariant.1 in
     let none = sym c.if-n-eq0.true ∙ c.first_record-n.ensures.0 ∙ ap first_record (rest_of c.args.piece.now l.p.taken) in
-    (walk_ends w c.requires.1 none, (none, w.inside, w.counted, omega (arith, w.inside, w.fitting)))
+    record { serves = walk_ends w c.requires.1 none; value = (none, w.inside, w.counted, omega (arith, w.inside, w.fitting)) }
 
 pub loop-p-preserved : goal.loop-p-preserved
 loop-p-preserved c =
@@ -28,16 +28,16 @@ loop-p-preserved c =
     let one = c.serve_record-p in
     let at = l.p.taken in
     let rest = rest_of c.args.piece.now at in (
-      one.auto.0 ∙ l.invariant.0,
-      walk_on w c.requires.1 first.result (take (at + first.result - at) (drop at c.args.piece.now)) one.new.0 one.new.1.1.0 one.result.place one.result.taken one.result.waiting
+      one.auto.book ∙ l.invariant.0,
+      walk_on w c.requires.1 first.result (take (at + first.result - at) (drop at c.args.piece.now)) one.new.book one.new.lines one.result.place one.result.taken one.result.waiting
           (first.ensures.0 ∙ ap first_record rest)
           c.if-n-eq0.false
           (rw rest at first.ensures.1)
           (ap (λ (k : ℕ). take k (drop at c.args.piece.now)) (add-sub_cancel_left at first.result))
-          one.ensures.0.0
-          one.ensures.0.1
-          one.ensures.0.2
-          one.ensures.1.0
-          one.ensures.1.1.0
-          one.ensures.1.1.1,
+          one.ensures.place_value.0
+          one.ensures.place_value.1
+          one.ensures.place_value.2
+          one.ensures.book_after
+          one.ensures.waiting_value
+          one.ensures.lines_after,
     )

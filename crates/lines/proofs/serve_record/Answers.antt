@@ -11,5 +11,5 @@ pub returns : goal.returns
 returns c =
     let call = c.engine_call in
     let line = c.put_line-waiting in
-    let text = answer_put c.args.lines.now line.new.0 call.new.1.1.0 c.args.p.waiting line.result c.args.p.place (get_or c.args.bytes.now 0 0) (call_answer c.args.book.now c.args.bytes.now) call.ensures.1 line.ensures in
-    ((refl, refl, line.ensures.1), (call.ensures.0, (text.0, text.1)))
+    let text = answer_put c.args.lines.now line.new.lines call.new.answer c.args.p.waiting line.result c.args.p.place (get_or c.args.bytes.now 0 0) (call_answer c.args.book.now c.args.bytes.now) call.ensures.answer_after line.ensures in
+    record { place_value = (refl, refl, line.ensures.1); book_after = call.ensures.book_after; waiting_value = text.0; lines_after = text.1 }

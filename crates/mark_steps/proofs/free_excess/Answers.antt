@@ -24,6 +24,6 @@ give_any_back-moved-requires c =
 pub returns : goal.returns
 returns c =
     (
-      excess_step c.requires.0 c.requires.1 (λ i. (c.slice_known-1.given i).fits) c.get.ensures c.if-get-ne1.false c.row_at-position.ensures c.get-amount.ensures c.free-freed.ensures (c.give_any_back-moved.auto.0 ∙ c.requires.0.long) c.give_any_back-moved.ensures,
+      excess_step c.requires.0 c.requires.1 (λ i. (c.slice_known-1.given i).fits) c.get.ensures c.if-get-ne1.false c.row_at-position.ensures c.get-amount.ensures c.free-freed.ensures (c.give_any_back-moved.auto.book ∙ c.requires.0.long) c.give_any_back-moved.ensures,
       excess_missing c.requires.0 c.requires.1 (λ i. (c.slice_known-1.given i).fits) c.get.ensures c.if-get-ne1.false c.row_at-position.ensures c.get-amount.ensures c.free-freed.ensures c.give_any_back-moved.ensures.0 c.missing_from.ensures,
     )

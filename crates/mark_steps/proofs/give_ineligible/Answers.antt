@@ -36,4 +36,4 @@ pub returns : goal.returns
 returns c =
     let m = c.requires in
     gives_step m.0 m.1 (λ i. (c.slice_known-1.given i).fits) c.get.ensures c.if-get-ne1.false c.row_at-position.ensures c.eligibility_of-x.ensures c.ineligible-nominals.ensures
-    (rw c.row_at-position.ensures c.may_all_stay.ensures) c.if-may_all_stay.false (c.give_back.auto.0 ∙ m.0.long) c.give_back.ensures
+    (rw c.row_at-position.ensures c.may_all_stay.ensures) c.if-may_all_stay.false (c.give_back.auto.book ∙ m.0.long) c.give_back.ensures

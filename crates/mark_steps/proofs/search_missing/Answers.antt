@@ -16,9 +16,9 @@ use Rattle.mark_steps.proofs.search_missing.Goals.{After-pledge}
 
 -- what was found has come in
 taken_in : (c : After-pledge)
-    → Stepped shortfall_in c.args.columns.now c.args.book.now c.pledge.new.0 c.args.e 1
+    → Stepped shortfall_in c.args.columns.now c.args.book.now c.pledge.new.book c.args.e 1
 taken_in c =
-    search_step c.requires.0 c.requires.1 (λ i. (c.slice_known-1.given i).fits) c.requires.2 c.if-missing-eq0.false c.pick_for-found.ensures (c.pledge.auto.0 ∙ c.requires.0.long)
+    search_step c.requires.0 c.requires.1 (λ i. (c.slice_known-1.given i).fits) c.requires.2 c.if-missing-eq0.false c.pick_for-found.ensures (c.pledge.auto.book ∙ c.requires.0.long)
     (some_pledged (state c.args.book.now) c.args.e c.pick_for-found.result.nominals (sym (pick_empty _ _ _ _ c.pick_for-found.ensures)) (ne_eqb c.pick_for-found.result.count 0 c.if-found-eq0.false) c.pledge.ensures)
 
 pub returns-then-missing-eq0 : goal.returns-then-missing-eq0

@@ -15,15 +15,9 @@ use Rattle.marking.specs.Flags.{or_flag}
 use Rattle.marking.proofs.Counts.{sum_none, sum_more, or_flag_lem, or_le}
 use Rattle.marking.proofs.Passing.{On, on_start, on_step, on_end, on_flag, on_missing}
 use borrow.Author.Rules.{rules}
+use Rattle.marking.proofs.free_all.Invariants.{after, gives}
 use Rattle.marking.proofs.free_all.Goals as goal
 use Rattle.marking.proofs.free_all.Goals.{After-either-count}
-
--- the state after the pass, and whether it changes the position of an exposure
-abbrev after : State → State
-after s = on_exposures excess_back 64 s
-
-abbrev gives : State → ℕ → Bool
-gives s e = moved s (after s) e
 
 -- what one exposure counts
 flag-of : (c : After-either-count)

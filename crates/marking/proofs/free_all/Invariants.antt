@@ -17,8 +17,16 @@ use Rattle.marking.proofs.Passing.{On, on_start, on_step, on_end, on_flag, on_mi
 use borrow.Author.Rules.{rules}
 use Rattle.marking.proofs.free_all.Given as goal
 
+-- the state after the pass, and whether it changes the position of an exposure
+abbrev pub after : State → State
+after s = on_exposures excess_back 64 s
+
+abbrev pub gives : State → ℕ → Bool
+gives s e = moved s (after s) e
+
 abbrev pub invariant-loop-e : goal.invariant-loop-e
-invariant-loop-e l =     (l.e ≤ 64)
+invariant-loop-e l =
+    (l.e ≤ 64)
     × On excess_back l.columns l.initial.book l.book l.e
     × (l.count ≡ sum (λ j. or_flag (get_or l.gave j 0) (gives (state l.initial.book) j)) l.e)
     × (l.count ≤ l.e)

@@ -14,26 +14,16 @@ use Rattle.rules.specs.Marking.{on_exposures, moved, shortfall_in, missing_of}
 use Rattle.marking.proofs.Counts.{sum_none, sum_more, bit_le}
 use Rattle.marking.proofs.Passing.{On, on_start, on_step, on_end, on_before, on_flag, on_missing, missing_le, passed_fresh}
 use borrow.Author.Rules.{rules}
+use Rattle.marking.proofs.search_all.Invariants.{after, takes}
 use Rattle.marking.proofs.search_all.Goals as goal
-use Rattle.marking.proofs.search_all.Goals.{After-struct_known-1, At-loop-e}
-
--- the state after the pass, and whether it changes the position of an exposure
-abbrev after : State → State
-after s = on_exposures shortfall_in 64 s
-
-abbrev takes : State → ℕ → Bool
-takes s e = moved s (after s) e
+use Rattle.marking.proofs.search_all.Goals.{After-struct_known-1}
 
 -- one exposure counts once at most, and no more than an amount is missing of it
-module _ (c : After-struct_known-1) where
-  abbrev at : At-loop-e invariant-loop decreases-loop
-  at = c.before.before.before.before.before.before.before
+moved-le : (c : After-struct_known-1) → c.search_missing-step.result.moved ≤ 1
+moved-le c = rw c.search_missing-step.ensures.0.flag_is (bit_le (moved (state c.loop-e.book) (state c.search_missing-step.new.book) c.loop-e.e))
 
-  moved-le : c.search_missing-step.result.moved ≤ 1
-  moved-le = rw c.search_missing-step.ensures.0.flag_is (bit_le (moved (state at.loop.book) (state c.search_missing-step.new.0) at.loop.e))
-
-  lacks-le : c.search_missing-step.result.missing ≤ 10000000000000
-  lacks-le = rw c.search_missing-step.ensures.1 (missing_le c.search_missing-step.ensures.0.book (omega arith))
+lacks-le : (c : After-struct_known-1) → c.search_missing-step.result.missing ≤ 10000000000000
+lacks-le c = rw c.search_missing-step.ensures.1 (missing_le c.search_missing-step.ensures.0.book (omega arith))
 
 pub loop-e-init : goal.loop-e-init
 loop-e-init c = (omega arith, on_start c.requires.0, sum_none _, omega arith, sum_none _, omega arith)
@@ -44,10 +34,10 @@ search_missing-step-requires c =
     (c.loop-e.invariant.1.whole, below, rw c.requires.1 (filled_at (missing_of (state c.args.book.now)) 64 64 c.loop-e.e (le_refl 64) below) ∙ on_before c.loop-e.invariant.1 third_pass, passed_fresh third_pass c.loop-e.e c.loop-e.invariant.1.reached c.requires.2)
 
 pub overflow_add-count : goal.overflow_add-count
-overflow_add-count c = omega (arith, moved-le c)
+overflow_add-count c = omega (arith, moved-le (goal.at.overflow_add-count c).After-struct_known-1)
 
 pub overflow_add-after : goal.overflow_add-after
-overflow_add-after c = omega (arith, lacks-le c.before)
+overflow_add-after c = omega (arith, lacks-le (goal.at.overflow_add-after c).After-struct_known-1)
 
 pub loop-e-preserved : goal.loop-e-preserved
 loop-e-preserved c =
@@ -56,9 +46,9 @@ loop-e-preserved c =
       omega arith,
       on_step o t.0,
       sum_more _ c.loop-e.e c.loop-e.invariant.2 (on_flag o third_pass (omega arith) t.0),
-      omega (arith, moved-le c.before),
+      omega (arith, moved-le (goal.at.loop-e-preserved c).After-struct_known-1),
       sum_more _ c.loop-e.e c.loop-e.invariant.4 (on_missing o third_pass (omega arith) t.0 t.1),
-      omega (arith, lacks-le c.before),
+      omega (arith, lacks-le (goal.at.loop-e-preserved c).After-struct_known-1),
     )
 
 pub returns : goal.returns

@@ -28,7 +28,8 @@ target-used c =
 
 target-le : (c : After-get-exposure) → c.get-exposure.result ≤ 10000000000000
 target-le c =
-    rw c.get-exposure.ensures (exposure_le c.requires.1 c.exposure_of_fop-e.result (target_below c.before.before) (target-used c.before.before))
+    rw c.get-exposure.ensures (exposure_le c.requires.1 c.exposure_of_fop-e.result (rw c.exposure_of_fop-e.ensures (fop_below c.requires.1 c.requires.2))
+    (rw c.exposure_of_fop-e.ensures (exposure_used (state c.args.book.now) c.args.i (fop_below c.requires.1 c.requires.2))))
 
 -- what the code settles is the definition's amount, and at most the rest
 settles : (c : After-amount_for-x) → c.amount_for-x.result ≡ fop_amount (state c.args.book.now) c.args.i

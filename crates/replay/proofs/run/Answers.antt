@@ -68,7 +68,7 @@ pub loop-k-preserved : goal.loop-k-preserved
 loop-k-preserved c =
     let l = c.loop-k in
     let one = c.run_one-done in
-    walk_goes_on l.invariant (omega arith) (omega arith) (omega arith) one.auto.0 one.ensures
+    walk_goes_on l.invariant (omega arith) (omega arith) (omega arith) one.auto.book one.ensures
 
 pub shape_of-book : goal.shape_of-book
 shape_of-book c = omega arith

@@ -13,7 +13,7 @@ use borrow.Author.Tests.{eq-eqb, ne_eqb}
 use Rattle.request_search.proofs.free_row.Given as goal
 
 abbrev pub invariant-loop-i : goal.invariant-loop-i
-invariant-loop-i l = (l.i ≤ 256) × Ahead (λ l.i. eqb (state l.book numbers l.i) 0) 256 l.i (free_row (state l.book))
+invariant-loop-i l = (l.i ≤ 256) × Ahead (λ i. eqb (state l.book numbers i) 0) 256 l.i (free_row (state l.book))
 
 abbrev pub decreases-loop-i : goal.decreases-loop-i
 decreases-loop-i l = 256 - l.i

@@ -28,7 +28,7 @@ settle_pairs-returns-requires c =
 pub settle_pairs-requires : goal.settle_pairs-requires
 settle_pairs-requires c =
     let done = c.settle_pairs-returns.ensures in
-    (search rules, done.good, c.columns-columns.ensures ∙ sym done.prices.columns, record { fops = omega (arith, done.within.fops); c.before.before.before.before.before = omega (arith, done.within.returns); cents = omega (arith, done.within.cents) }, fresh_same done.prices c.fresh_since-since.ensures)
+    (search rules, done.good, c.columns-columns.ensures ∙ sym done.prices.columns, record { fops = omega (arith, done.within.fops); returns = omega (arith, done.within.returns); cents = omega (arith, done.within.cents) }, fresh_same done.prices c.fresh_since-since.ensures)
 
 pub returns : goal.returns
 returns c =

@@ -6,15 +6,15 @@ use Rattle.setup.proofs.Ranges.{price_in_lem}
 use Rattle.setup.proofs.Returns.{LotKept, first_lot, same_lot, other_lot, quote_closed, quote_late, price_accepted}
 use borrow.Author.Rules.{rules}
 use Rattle.setup.proofs.price_code.Goals as goal
-use Rattle.setup.proofs.price_code.Goals.{Joined-lot-ne0}
+use Rattle.setup.proofs.price_code.Goals.{Joined-lot-ne0, then-lot-ne0+else-lot-fields, else-lot-ne0}
 
 -- after the test of the lot, whichever way it came
 lot_kept : (c : Joined-lot-ne0) → LotKept (state c.args.book.now) c.args.fields.now
 lot_kept c =
-    ⊎_elim
-    (λ w. same_lot (state c.args.book.now) c.args.fields.now c.get-lot.ensures w.2.left)
-    (λ w. first_lot (state c.args.book.now) c.args.fields.now c.get-lot.ensures w.left)
-    c.if-lot-ne0.branch
+    elim c.if-lot-ne0.branch [
+      then-lot-ne0+else-lot-fields w ↦ same_lot (state c.args.book.now) c.args.fields.now c.get-lot.ensures w.if-lot-fields.false
+    | else-lot-ne0 w ↦ first_lot (state c.args.book.now) c.args.fields.now c.get-lot.ensures w.if-lot-ne0.false
+    ]
 
 pub get-lot-requires : goal.get-lot-requires
 get-lot-requires c =

@@ -1,7 +1,5 @@
 -- `valuation::nominal_within` meets its contract: no nominal passes a large amount, and below it one division is the answer.
 -- Assumes nothing.
-use Prim.Native.Nat.{ℕ, ◌-◌, ◌≤◌}
-use borrow.Author.Rules.{rules}
 use native.Mathlib.Nat.{le_of_lt}
 use native.Mathlib.Omega.{arith}
 use Rattle.valuation.proofs.Inverse.{large_amount, by_division, by_division_all, unit_pos, unit_le}
