@@ -266,6 +266,7 @@ fn the_program_reports_a_failed_read() {
     let output = start((command, path)).wait_with_output().expect("the program's output");
     assert_eq!(output.stdout, b"");
     assert_eq!(output.stderr, b"desk: standard input cannot be read\n");
+    assert_eq!(output.status.code(), Some(1));
 }
 
 /// Nothing can be written to a device that is always full: neither the lines of a piece nor the last line.
@@ -278,6 +279,7 @@ fn the_program_reports_a_failed_write() {
         child.stdin.take().expect("a pipe").write_all(input).expect("a reader");
         let output = child.wait_with_output().expect("the program's output");
         assert_eq!(output.stderr, b"desk: standard output cannot be written\n");
+        assert_eq!(output.status.code(), Some(1));
     }
 }
 

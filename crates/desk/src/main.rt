@@ -6,12 +6,13 @@
 // is tested, on stdin and stdout beside src/ and by tests/tests/lines.rs.
 #![tactic(auto)]
 
-ghost use Rattle.std.specs.Prelude.{◌≡◌, false, ◌+◌, ◌-◌, ◌≤◌, ◌<◌, length, take, drop};
+ghost use Rattle.std.specs.Prelude.{◌≡◌, true, false, ◌+◌, ◌-◌, ◌≤◌, ◌<◌, length, take, drop};
 ghost use Rattle.line_text.specs.Buffer.{with_text};
 ghost use Rattle.lines.specs.Program.{first_record, zero_book};
 ghost use Rattle.lines.specs.Pieces.{Serves, Ran, is_open, is_over, end_text};
 
 use std::io::{Read, Write};
+use std::process::ExitCode;
 
 // More reads than a machine makes in years: a proved loop has to end, and nothing says that the input does.
 const READS: u64 = 281474976710655;
@@ -159,36 +160,38 @@ fn report_write<E: Write>(errors: &mut E) {
     let _ = errors.write_all(b"desk: standard output cannot be written\n");
 }
 
-// Writes the line of a cut or unknown record at the input's end. The exit status is 0 in any case: a message on standard error stands for
-// a read or a write that failed.
+// Writes the line of a cut or unknown record at the input's end; false, with a message on standard error, where a read or a write failed.
 fn finish<W: Write, E: Write>(
     writer: &mut W,
     errors: &mut E,
     input: &[u8],
     text: &mut [u8],
     s: Session,
-)
+) -> bool
     requires { (126 ≤ length text.old) × (s.taken ≤ s.end) × (s.end ≤ length input.now) }
-    ensures { text.new ≡ with_text text.old 0 (end_text s.written (is_over s.failed s.count (drop s.taken (take s.end input.now))) s.place (drop s.taken (take s.end input.now))) }
+    ensures text_after { text.new ≡ with_text text.old 0 (end_text s.written (is_over s.failed s.count (drop s.taken (take s.end input.now))) s.place (drop s.taken (take s.end input.now))) }
+    ensures whole { result ≡ true → (s.written ≡ true) × (is_over s.failed s.count (drop s.taken (take s.end input.now)) ≡ true) }
 {
     if !s.written {
         report_write(errors);
-        return;
+        return false;
     }
     if !is_over(input, s) {
         report_read(errors);
-        return;
+        return false;
     }
     let taken = s.taken;
     let end = s.end;
     let last = line_text::put_last(text, s.place, &input[taken..end]);
     if !write_text(writer, text, last) {
         report_write(errors);
+        return false;
     }
+    true
 }
 
 // The lines of the 512 bytes that are read at once fit into the text, so that each piece is served whole.
-fn main(rt: HostRuntime) {
+fn main(rt: HostRuntime) -> ExitCode {
     let mut reader = rt.stdin();
     let mut writer = rt.stdout();
     let mut errors = rt.stderr();
@@ -196,5 +199,9 @@ fn main(rt: HostRuntime) {
     let mut input = [0u8; 512];
     let mut text = [0u8; 65536];
     let s = serve(&mut reader, &mut writer, &mut book, &mut input, &mut text);
-    finish(&mut writer, &mut errors, &input, &mut text, s);
+    if finish(&mut writer, &mut errors, &input, &mut text, s) {
+        ExitCode::SUCCESS
+    } else {
+        ExitCode::FAILURE
+    }
 }
