@@ -48,13 +48,13 @@ libraries: $(LIBRARY)
 # rt proves the crate, and those below it, for it. What rt says is shown only where it fails.
 $(LIBRARY): $(SOURCES)
 	@mkdir -p $(dir $@) build
-	cd crates/yordzepa && rt lib >$(CURDIR)/build/library.log 2>&1 || { cat $(CURDIR)/build/library.log; exit 1; }
+	cd crates/yordzepa && rt lib >../../build/library.log 2>&1 || { cat ../../build/library.log; exit 1; }
 	cp crates/yordzepa/out/libyordzepa.a $@
 
 # `rt run` proves the program and what it uses, links it and runs it.
 $(DESK): $(SOURCES)
 	@mkdir -p build
-	cd crates/desk && rt run <stdin >$(CURDIR)/build/desk.log 2>&1 || { cat $(CURDIR)/build/desk.log; exit 1; }
+	cd crates/desk && rt run <stdin >../../build/desk.log 2>&1 || { cat ../../build/desk.log; exit 1; }
 	@touch $@
 
 # The operator's tool: build/yordzepa. docs/TOOL.md tells how it is used.
