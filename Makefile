@@ -1,16 +1,14 @@
 # Two commands do all the set-up: `make run` and `make test`. `make bench` measures.
 VERSION = 0.1.0
 
-# The crates with exported functions, each of which rt writes to an archive, and the one library of them all.
-CRATES = calendar valuation baskets picking_calls records reads engine
-STATICLIB = target/staticlib
-ARCHIVES = $(CRATES:%=$(STATICLIB)/lib%.a)
+# The library for C, which is the crate yordzepa, and the program, which is the crate desk.
 LIBRARY = build/libyordzepa.a
+DESK = crates/desk/out/desk
 
-# What they are made of: an archive that is older than one of these is proved and made again.
+# What they are made of: either one is proved and made again where it is older than one of these.
 SOURCES = crates.txt $(wildcard crates/*/src/*.rt crates/*/specs/*.antt)
 
-# Two of rt's runs in one folder disturb each other.
+# A run of rt takes all processors, and a second one in a crate waits for the first.
 .NOTPARALLEL:
 
 # The operator's tool.
@@ -30,11 +28,10 @@ PKGCONFIGDIR = $(LIBDIR)/pkgconfig
 .PHONY: run test fuzz bench bench-page libraries tool test-tool install uninstall clean
 
 # Proves the program and what it uses, and runs it on document 01's example.
-run:
-	rt check desk
-	target/bin/desk < crates/desk/stdin
+run: $(DESK)
+	$(DESK) <crates/desk/stdin
 
-# The gate: layout, proofs, must-fail edits, then the tests on what is proved.
+# The gate: layout, proofs, must-fail edits and the program by `rt ci`, then the tests on what is proved.
 test:
 	.ci/run
 
@@ -48,18 +45,17 @@ fuzz: libraries
 # The library for C and Rust: build/libyordzepa.a, declared in include/yordzepa.h.
 libraries: $(LIBRARY)
 
-# One archive of the members of all: a host's linker takes those that the host calls.
-$(LIBRARY): $(ARCHIVES)
-	mkdir -p $(dir $@)
-	{ echo CREATE $@; printf 'ADDLIB %s\n' $(ARCHIVES); echo SAVE; echo END; } | $(AR) -M
+# rt proves the crate, and those below it, for it. What rt says is shown only where it fails.
+$(LIBRARY): $(SOURCES)
+	@mkdir -p $(dir $@) build
+	cd crates/yordzepa && rt lib >../../build/library.log 2>&1 || { cat ../../build/library.log; exit 1; }
+	cp crates/yordzepa/out/libyordzepa.a $@
 
-# One crate's archive; rt proves the crate for it. What rt says is shown only where it fails.
-$(STATICLIB)/lib%.a: $(SOURCES)
+# `rt run` proves the program and what it uses, links it and runs it.
+$(DESK): $(SOURCES)
 	@mkdir -p build
-	rt staticlib $* >build/$*.log 2>&1 || { cat build/$*.log; exit 1; }
-
-target/bin/desk: $(SOURCES)
-	rt check desk
+	cd crates/desk && rt run <stdin >../../build/desk.log 2>&1 || { cat ../../build/desk.log; exit 1; }
+	@touch $@
 
 # The operator's tool: build/yordzepa. docs/TOOL.md tells how it is used.
 tool: $(TOOL)
@@ -94,7 +90,7 @@ test-tool: tool
 	sh tests/tool/run.sh
 
 # The proved functions beside plain Rust, the engine beside the second program, the tool beside its calls: Markdown tables.
-bench: libraries tool target/bin/desk
+bench: libraries tool $(DESK)
 	@printf '%s, %s processors; %s; %s.\n' "$$(lscpu | sed -n 's/^Model name: *//p')" "$$(nproc)" \
 		"$$(rustc --version | cut -d' ' -f1,2)" "$$(date -u +%Y-%m-%d)"
 	@cargo run --release --offline --locked --quiet --manifest-path tests/Cargo.toml --features engine --bin bench
@@ -107,4 +103,4 @@ bench-page:
 		status=$$?; rm -f $$figures; exit $$status
 
 clean:
-	rm -rf target tests/target build
+	rm -rf crates/*/out tests/target build

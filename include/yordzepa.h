@@ -2,8 +2,7 @@
  * yordzepa.h: the pledged-bond book, and the calendar, valuation, baskets, picking and records
  * that it stands on.
  *
- * The functions are in one static library for x86-64, libyordzepa.a, which has a member for each
- * group of them; a linker takes the members that a host calls:
+ * The functions are in one static library for x86-64, libyordzepa.a:
  *
  *   engine      engine_call
  *   reads       reads_account, reads_position, reads_exposure, reads_request, reads_basket
@@ -13,9 +12,8 @@
  *   picking     picking_pick, picking_free
  *   records     records_read, records_write
  *
- * No member needs another. They keep nothing between calls, allocate nothing, open nothing and
- * call nothing but memcpy and memset of the C library, so they may be called from several threads
- * at once.
+ * They keep nothing between calls, allocate nothing, open nothing and call nothing but memcpy and
+ * memset of the C library, so they may be called from several threads at once.
  *
  * Money is in euro cents, a nominal in whole euros, a price in millionths of par (1,000,000 is
  * par), a haircut in hundredths of a percent. Day 0 is Tuesday 1 January 2002; the last day is

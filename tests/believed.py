@@ -10,11 +10,11 @@ import re
 import sys
 
 # Theorems, by the definition that states them; and functions that are no exported entry but carry a demand.
-THEOREMS = ["ReadsBack", "WritesBack", "EdgesHold", "Demand3", "OpeningAccepted", "AcceptedLeavesSound", "RulesInPrecedence", "TablesNamed", "ReadRulesInPrecedence", "AllMoneyTold", "programText"]
+THEOREMS = ["ReadsBack", "WritesBack", "EdgesHold", "Demand3", "OpeningAccepted", "AcceptedLeavesSound", "RulesInPrecedence", "TablesNamed", "ReadRulesInPrecedence", "AllMoneyTold", "program_text"]
 CARRIERS = {"crates/replay/src/lib.rt": ["run"]}
 
 IDENTIFIER = re.compile(r"[A-Za-zα-ω][\w'\-]*")
-USE = re.compile(r"^\s*(?:ghost )?(?:pub )?use Rattle·(\w+?)(?:·specs)?\.specs\.([\w.]+?)(?:\.\{([^}]*)\}| as (\w+));?$")
+USE = re.compile(r"^\s*(?:ghost )?(?:pub )?use Rattle\.(\w+)\.specs\.([\w.]+?)(?:\.\{([^}]*)\}| as (\w+));?$")
 
 
 def code(text, mark):
@@ -71,7 +71,7 @@ def roots(found):
             if use and use.group(3):
                 for item in use.group(3).split(","):
                     uses[item.strip()] = (use.group(1), use.group(2))
-        contracts = re.findall(r"#\[no_mangle\]\npub extern \"C\" fn (.*?)\n\{", text, re.S)
+        contracts = re.findall(r"#\[unsafe\(no_mangle\)\]\npub extern \"C\" fn (.*?)\n\{", text, re.S)
         for name in CARRIERS.get(path, []):
             contracts += re.findall(rf"\npub fn ({name}\(.*?)\n\{{", text, re.S)
         for contract in contracts:

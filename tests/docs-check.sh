@@ -9,7 +9,7 @@ missing() {
     echo "$1"
     status=1
 }
-for crate in $(sed -n 's/^\([a-z_]*\):.*/\1/p' crates.txt); do
+for crate in $(sed -n 's/^\([a-z_]*\)\( staticlib\)\{0,1\}:.*/\1/p' crates.txt); do
     grep -qw "$crate" docs/ARCHITECTURE.md || missing "docs/ARCHITECTURE.md does not name the crate $crate"
 done
 edits=$(sed -n '/^## What the buyer does not accept/,/^## Assumed/p' docs/PROMISES.md | grep -o '[a-z_]*/[a-z0-9_]*')

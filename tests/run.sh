@@ -1,16 +1,13 @@
 #!/bin/sh
 # All tests, in order, from the repository's root or anywhere else: the documents are held to the tree,
-# the library is written, the header is held to it, the C host is compiled and run, the second program
-# is compared with it, and the operator's tool is tried. What is not proved yet is proved first; after
-# `rt ci`, which .ci/run begins with, all is. Ends at the first failure.
+# the library and the program are made where they are missing or older than the crates (their proofs take
+# minutes; .ci/run, which begins with `rt ci`, has made both), the header is held to the library, the C host
+# is compiled and run, the second program is compared with it, and the operator's tool is tried. Ends at the
+# first failure.
 set -eu
 cd "$(dirname "$0")/.."
 
 CC=${CC:-cc}
-# Where rt keeps its files during a check: .ci/run names a folder in memory, if there is one.
-rt() {
-    TMPDIR=${RT_TMPDIR:-${TMPDIR:-/tmp}} command rt "$@"
-}
 work=$(mktemp -d)
 trap 'rm -rf "$work"' EXIT
 
@@ -27,34 +24,9 @@ step() {
     fi
 }
 
-# The archive of one crate, which `rt staticlib` proves once more. It has a folder of its own, since two of rt's runs in one folder
-# disturb each other, and shares what is proved.
-archive() (
-    root=$PWD
-    mkdir -p "$work/$1/target" target/staticlib && cd "$work/$1" &&
-        ln -s "$root/crates" "$root/crates.txt" . && ln -s "$root/target/rlib" "$root/target/stamp" target &&
-        rt staticlib "$1" && mv "target/staticlib/lib$1.a" "$root/target/staticlib"
-)
-archives() {
-    for crate in "$@"; do
-        archive "$crate" || return 1
-    done
-}
-# Two parts that take about as long, one beside the other.
-libraries() {
-    result=0
-    archives reads records calendar >"$work/beside" 2>&1 &
-    beside=$!
-    archives engine picking_calls baskets valuation || result=1
-    wait "$beside" || { cat "$work/beside"; result=1; }
-    return "$result"
-}
 step "documents against the tree" sh tests/docs-check.sh
 step "what has to be believed, as README lists it" python3 tests/believed.py
-step "rt check of the program and the libraries" rt check desk reads records picking_calls calendar baskets valuation
-step "rt staticlib of seven crates" libraries
-
-step "one library of them all" make -s build/libyordzepa.a
+step "the library and the program" make -s libraries crates/desk/out/desk
 step "header against the library" sh tests/header-check.sh
 
 step "compile examples/host.c" \

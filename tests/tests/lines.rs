@@ -1,5 +1,5 @@
 //! Document 01, The program's lines, by the second program, by the desk under test and by the program
-//! `desk` itself, target/bin/desk, which `rt check desk` writes.
+//! `desk` itself, crates/desk/out/desk, which `rt ci` and `make run` write.
 
 use std::fs::File;
 use std::io::Write;
@@ -29,16 +29,16 @@ fn run(input: &[u8]) -> Vec<String> {
 
 /// The program, with its three streams.
 fn program() -> (Command, PathBuf) {
-    let path = Path::new(env!("CARGO_MANIFEST_DIR")).join("../target/bin/desk");
+    let path = Path::new(env!("CARGO_MANIFEST_DIR")).join("../crates/desk/out/desk");
     let mut command = Command::new(&path);
     command.stdin(Stdio::piped()).stdout(Stdio::piped()).stderr(Stdio::piped());
     (command, path)
 }
 
 fn start((mut command, path): (Command, PathBuf)) -> Child {
-    command.spawn().unwrap_or_else(|error| {
-        panic!("{}: {error}: run `rt check desk` in the root", path.display())
-    })
+    command
+        .spawn()
+        .unwrap_or_else(|error| panic!("{}: {error}: run `make run` in the root", path.display()))
 }
 
 /// What the program writes. The input is handed over in parts of a size, so that reads end within records.
@@ -266,6 +266,7 @@ fn the_program_reports_a_failed_read() {
     let output = start((command, path)).wait_with_output().expect("the program's output");
     assert_eq!(output.stdout, b"");
     assert_eq!(output.stderr, b"desk: standard input cannot be read\n");
+    assert_eq!(output.status.code(), Some(1));
 }
 
 /// Nothing can be written to a device that is always full: neither the lines of a piece nor the last line.
@@ -278,6 +279,7 @@ fn the_program_reports_a_failed_write() {
         child.stdin.take().expect("a pipe").write_all(input).expect("a reader");
         let output = child.wait_with_output().expect("the program's output");
         assert_eq!(output.stderr, b"desk: standard output cannot be written\n");
+        assert_eq!(output.status.code(), Some(1));
     }
 }
 

@@ -9,7 +9,7 @@ import time
 from common import ENTRY, ROOT, TOOL, days
 
 BATCH = 1024
-PROGRAM = os.path.join(ROOT, "target", "bin", "desk")
+PROGRAM = os.path.join(ROOT, "crates", "desk", "out", "desk")
 
 
 def compiled(folder, name, *words):
@@ -108,7 +108,7 @@ def print_program(folder, calls, rounds):
         with open(path, "rb") as records:
             return timed([PROGRAM], stdin=records)
     runs = [program() for _ in range(rounds)]
-    table("The program", "`target/bin/desk` on 100,000 records from a file. The least of %d rounds."
+    table("The program", "`crates/desk/out/desk` on 100,000 records from a file. The least of %d rounds."
           % rounds,
           [("the calls alone, through the library", min(alone(calls, path) for _ in range(rounds))),
            ("the program, of the processor", min(run[1] for run in runs)),

@@ -8,7 +8,7 @@ import unittest
 from common import ROOT, TOOL, Case
 
 # What a clone has once the tool is built, and the examples use.
-PARTS = ("Makefile", "build/libyordzepa.a", "build/yordzepa", "crates", "crates.txt", "examples", "include", "target", "tools",
+PARTS = ("Makefile", "build/libyordzepa.a", "build/yordzepa", "crates", "crates.txt", "examples", "include", "tools",
          "yordzepa.pc.in")
 
 

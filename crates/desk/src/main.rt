@@ -6,12 +6,13 @@
 // is tested, on stdin and stdout beside src/ and by tests/tests/lines.rs.
 #![tactic(auto)]
 
-ghost use Rattle.std.specs.Prelude.{◌≡◌, false, ◌+◌, ◌-◌, ◌≤◌, ◌<◌, length, take, drop};
+ghost use Rattle.std.specs.Prelude.{◌≡◌, true, false, ◌+◌, ◌-◌, ◌≤◌, ◌<◌, length, take, drop};
 ghost use Rattle.line_text.specs.Buffer.{with_text};
 ghost use Rattle.lines.specs.Program.{first_record, zero_book};
 ghost use Rattle.lines.specs.Pieces.{Serves, Ran, is_open, is_over, end_text};
 
-use libc::{STDERR_FILENO, STDIN_FILENO, STDOUT_FILENO};
+use std::io::{Read, Write};
+use std::process::ExitCode;
 
 // More reads than a machine makes in years: a proved loop has to end, and nothing says that the input does.
 const READS: u64 = 281474976710655;
@@ -38,27 +39,38 @@ struct Session {
 }
 
 // Writes the first bytes of a text; false where that fails.
-fn write_text(text: &[u8], waiting: usize) -> bool
+fn write_text<W: Write>(writer: &mut W, text: &[u8], waiting: usize) -> bool
     requires { waiting ≤ length text.now }
 {
-    io::write_all(STDOUT_FILENO, &text[..waiting])
+    writer.write_all(&text[..waiting]).is_ok()
 }
 
 // Reads once, behind the bytes held.
-fn read_more(input: &mut [u8], held: usize) -> Got
+fn read_more<R: Read>(reader: &mut R, input: &mut [u8], held: usize) -> Got
     requires { held ≤ length input.old }
     ensures { (take held input.new ≡ take held input.old) × (held + result.count ≤ length input.old) }
 {
-    let room = &mut input[held..];
-    let got = libc::read(STDIN_FILENO, room);
-    Got {
-        count: io::count(got, room),
-        failed: lines::is_failure(got),
+    match reader.read(&mut input[held..]) {
+        Ok(count) => Got {
+            count,
+            failed: false,
+        },
+        Err(_) => Got {
+            count: 0,
+            failed: true,
+        },
     }
 }
 
 // Reads a piece behind what is left of the last one, serves it and writes its lines.
-fn serve_some(book: &mut [u8], input: &mut [u8], text: &mut [u8], s: Session) -> Session
+fn serve_some<R: Read, W: Write>(
+    reader: &mut R,
+    writer: &mut W,
+    book: &mut [u8],
+    input: &mut [u8],
+    text: &mut [u8],
+    s: Session,
+) -> Session
     requires { (length input.old ≤ 512) × (64512 ≤ length text.old) × (s.taken ≤ s.end) × (s.end ≤ length input.old) × (0 < s.reads) × (s.place + 512 < 18446744073709551616) }
     ensures input_after { take (s.end - s.taken) input.new ≡ drop s.taken (take s.end input.old) }
     ensures serves { Serves book.old text.old s.place (take result.end input.new) book.new text.new result.place result.taken result.waiting }
@@ -66,10 +78,10 @@ fn serve_some(book: &mut [u8], input: &mut [u8], text: &mut [u8], s: Session) ->
 {
     let reads = s.reads - 1;
     let held = lines::move_to_front(input, s.taken, s.end);
-    let got = read_more(input, held);
+    let got = read_more(reader, input, held);
     let end = held + got.count;
     let p = lines::serve(book, &input[..end], text, s.place);
-    let written = write_text(text, p.waiting);
+    let written = write_text(writer, text, p.waiting);
     Session {
         reads,
         place: p.place,
@@ -110,7 +122,13 @@ fn is_open(input: &[u8], s: Session) -> bool
 }
 
 // Serves the whole input, but for the line of a cut or unknown record at its end.
-fn serve(book: &mut [u8], input: &mut [u8], text: &mut [u8]) -> Session
+fn serve<R: Read, W: Write>(
+    reader: &mut R,
+    writer: &mut W,
+    book: &mut [u8],
+    input: &mut [u8],
+    text: &mut [u8],
+) -> Session
     requires { (book.old ≡ zero_book) × (length input.old ≤ 512) × (64512 ≤ length text.old) }
     ensures ran { Ran book.new (drop result.taken (take result.end input.new)) result.place result.failed result.count }
     ensures false_value { false ≡ is_open result.reads result.written result.failed (is_over result.failed result.count (drop result.taken (take result.end input.new))) }
@@ -127,48 +145,63 @@ fn serve(book: &mut [u8], input: &mut [u8], text: &mut [u8]) -> Session
         failed: false,
     };
     loop {
-        s = serve_some(book, input, text, s);
+        s = serve_some(reader, writer, book, input, text, s);
         if !is_open(input, s) {
             return s;
         }
     }
 }
 
-fn report_read() {
-    io::write_all(STDERR_FILENO, b"desk: standard input cannot be read\n");
+fn report_read<E: Write>(errors: &mut E) {
+    let _ = errors.write_all(b"desk: standard input cannot be read\n");
 }
 
-fn report_write() {
-    io::write_all(STDERR_FILENO, b"desk: standard output cannot be written\n");
+fn report_write<E: Write>(errors: &mut E) {
+    let _ = errors.write_all(b"desk: standard output cannot be written\n");
 }
 
-// Writes the line of a cut or unknown record at the input's end. There is no exit status in Rattle: a message on standard error stands for
-// a read or a write that failed.
-fn finish(input: &[u8], text: &mut [u8], s: Session)
+// Writes the line of a cut or unknown record at the input's end; false, with a message on standard error, where a read or a write failed.
+fn finish<W: Write, E: Write>(
+    writer: &mut W,
+    errors: &mut E,
+    input: &[u8],
+    text: &mut [u8],
+    s: Session,
+) -> bool
     requires { (126 ≤ length text.old) × (s.taken ≤ s.end) × (s.end ≤ length input.now) }
-    ensures { text.new ≡ with_text text.old 0 (end_text s.written (is_over s.failed s.count (drop s.taken (take s.end input.now))) s.place (drop s.taken (take s.end input.now))) }
+    ensures text_after { text.new ≡ with_text text.old 0 (end_text s.written (is_over s.failed s.count (drop s.taken (take s.end input.now))) s.place (drop s.taken (take s.end input.now))) }
+    ensures whole { result ≡ true → (s.written ≡ true) × (is_over s.failed s.count (drop s.taken (take s.end input.now)) ≡ true) }
 {
     if !s.written {
-        report_write();
-        return;
+        report_write(errors);
+        return false;
     }
     if !is_over(input, s) {
-        report_read();
-        return;
+        report_read(errors);
+        return false;
     }
     let taken = s.taken;
     let end = s.end;
     let last = line_text::put_last(text, s.place, &input[taken..end]);
-    if !write_text(text, last) {
-        report_write();
+    if !write_text(writer, text, last) {
+        report_write(errors);
+        return false;
     }
+    true
 }
 
 // The lines of the 512 bytes that are read at once fit into the text, so that each piece is served whole.
-fn main() {
+fn main(rt: HostRuntime) -> ExitCode {
+    let mut reader = rt.stdin();
+    let mut writer = rt.stdout();
+    let mut errors = rt.stderr();
     let mut book = [0u8; 49152];
     let mut input = [0u8; 512];
-    let mut text = io::large_buffer();
-    let s = serve(&mut book, &mut input, &mut text);
-    finish(&input, &mut text, s);
+    let mut text = [0u8; 65536];
+    let s = serve(&mut reader, &mut writer, &mut book, &mut input, &mut text);
+    if finish(&mut writer, &mut errors, &input, &mut text, s) {
+        ExitCode::SUCCESS
+    } else {
+        ExitCode::FAILURE
+    }
 }
