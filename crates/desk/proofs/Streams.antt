@@ -1,7 +1,7 @@
 -- What is read and written from one piece to the next, and at the end.
 -- Assumes nothing.
 use Rattle.std.proofs.Common.{◌≡◌, refl, sym, ap, subst, ◌∙◌, Bool, true, false, true≢false, List, [], ◌∷◌, ◌++◌, ℕ, zero, suc, ◌-◌, ◌≤◌, ◌<◌, length, take, drop, take-take, take-append-drop, Some, None, IfSome, arith, leb}
-use Rattle.core.specs.declared.option.Option.{Option}
+use Rattle.std.specs.declared.option.Option.{Option}
 use Rattle.std.proofs.lemmas.Bool.{false≢true}
 use lib.Seq.{take-append-le, take_all}
 use mathlib.Core.Logic.{⊎_elim}

@@ -1,7 +1,7 @@
 -- What a run of the program has read and written, by what its reader has left and its writer holds, where these are known.
 -- Assumes nothing.
 use Rattle.std.specs.Prelude.{◌≡◌, List, ℕ}
-use Rattle.core.specs.declared.option.Option.{Option}
+use Rattle.std.specs.declared.option.Option.{Option}
 use Rattle.std.specs.Io.KnownBytes.{Consumes, Appends}
 use Rattle.lines.specs.Program.{first_record}
 use Rattle.lines.specs.Pieces.{Reached}
