@@ -2,14 +2,18 @@
 // makes of it.
 // Proved here: what was held of a piece stands in front of what is read next, each piece is served once, with the book and the place that
 // the last one left, and its lines stand at the front of the text (`serve_some`); so the lines of all pieces and the last line are the
-// text of the whole input (`serve`, `finish`). No contract can say what `read` gives, or that a text is handed to `write` and written: that
-// is tested, on stdin and stdout beside src/ and by tests/tests/lines.rs.
+// text of the whole input (`serve`, `finish`). For any reader and writer whose bytes are known, `run` writes the text of all that the reader
+// has, where it answers true. What standard input gives and standard output takes is the system's: that is tested, on stdin and stdout
+// beside src/ and by tests/tests/lines.rs.
 #![tactic(auto)]
 
-ghost use Rattle.std.specs.Prelude.{◌≡◌, true, false, ◌+◌, ◌-◌, ◌≤◌, ◌<◌, length, take, drop};
+ghost use Rattle.std.specs.Prelude.{◌≡◌, true, false, ◌+◌, ◌-◌, ◌≤◌, ◌<◌, length, take, drop, IfSome};
+ghost use Rattle.std.specs.Io.KnownBytes.{Consumes, Appends, IsAtEnd};
 ghost use Rattle.line_text.specs.Buffer.{with_text};
-ghost use Rattle.lines.specs.Program.{first_record, zero_book};
+ghost use Rattle.line_text.specs.Text.{last_line};
+ghost use Rattle.lines.specs.Program.{first_record, zero_book, program_text};
 ghost use Rattle.lines.specs.Pieces.{Serves, Ran, is_open, is_over, end_text};
+ghost use Rattle.desk.specs.Streams.{Between};
 
 use std::io::{Read, Write};
 use std::process::ExitCode;
@@ -41,14 +45,20 @@ struct Session {
 // Writes the first bytes of a text; false where that fails.
 fn write_text<W: Write>(writer: &mut W, text: &[u8], waiting: usize) -> bool
     requires { waiting ≤ length text.now }
+    ensures { result ≡ true → Appends (W.contents writer.old) (W.contents writer.new) (take waiting text.now) }
 {
-    writer.write_all(&text[..waiting]).is_ok()
+    match writer.write_all(&text[..waiting]) {
+        Ok(()) => true,
+        Err(_) => false,
+    }
 }
 
 // Reads once, behind the bytes held.
 fn read_more<R: Read>(reader: &mut R, input: &mut [u8], held: usize) -> Got
     requires { held ≤ length input.old }
-    ensures { (take held input.new ≡ take held input.old) × (held + result.count ≤ length input.old) }
+    ensures held_after { (take held input.new ≡ take held input.old) × (held + result.count ≤ length input.old) }
+    ensures read { Consumes (R.remaining reader.old) (R.remaining reader.new) (take result.count (drop held input.new)) }
+    ensures read_end { result.failed ≡ false → result.count ≡ 0 → held < length input.old → IsAtEnd (R.remaining reader.new) }
 {
     match reader.read(&mut input[held..]) {
         Ok(count) => Got {
@@ -74,6 +84,9 @@ fn serve_some<R: Read, W: Write>(
     requires { (length input.old ≤ 512) × (64512 ≤ length text.old) × (s.taken ≤ s.end) × (s.end ≤ length input.old) × (0 < s.reads) × (s.place + 512 < 18446744073709551616) }
     ensures input_after { take (s.end - s.taken) input.new ≡ drop s.taken (take s.end input.old) }
     ensures serves { Serves book.old text.old s.place (take result.end input.new) book.new text.new result.place result.taken result.waiting }
+    ensures read { Consumes (R.remaining reader.old) (R.remaining reader.new) (drop (s.end - s.taken) (take result.end input.new)) }
+    ensures read_end { result.failed ≡ false → result.count ≡ 0 → s.end < length input.old + s.taken → IsAtEnd (R.remaining reader.new) }
+    ensures wrote { result.written ≡ true → Appends (W.contents writer.old) (W.contents writer.new) (take result.waiting text.new) }
     ensures value { (0 ≡ first_record (drop result.taken (take result.end input.new))) × (result.end ≡ (s.end - s.taken) + result.count) × (result.taken ≤ result.end) × (result.end ≤ length input.old) × (result.place ≤ s.place + 512) × (result.reads + 1 ≡ s.reads) }
 {
     let reads = s.reads - 1;
@@ -133,6 +146,8 @@ fn serve<R: Read, W: Write>(
     ensures ran { Ran book.new (drop result.taken (take result.end input.new)) result.place result.failed result.count }
     ensures false_value { false ≡ is_open result.reads result.written result.failed (is_over result.failed result.count (drop result.taken (take result.end input.new))) }
     ensures taken_le_end { (result.taken ≤ result.end) × (result.end ≤ length input.old) }
+    ensures streams { result.written ≡ true → Between (R.remaining reader.old) (R.remaining reader.new) (W.contents writer.old) (W.contents writer.new) book.new (drop result.taken (take result.end input.new)) result.place }
+    ensures read_end { 65 ≤ length input.old → result.failed ≡ false → result.count ≡ 0 → IsAtEnd (R.remaining reader.new) }
 {
     let mut s = Session {
         reads: READS,
@@ -170,6 +185,7 @@ fn finish<W: Write, E: Write>(
 ) -> bool
     requires { (126 ≤ length text.old) × (s.taken ≤ s.end) × (s.end ≤ length input.now) }
     ensures text_after { text.new ≡ with_text text.old 0 (end_text s.written (is_over s.failed s.count (drop s.taken (take s.end input.now))) s.place (drop s.taken (take s.end input.now))) }
+    ensures wrote { result ≡ true → Appends (W.contents writer.old) (W.contents writer.new) (last_line s.place (drop s.taken (take s.end input.now))) }
     ensures whole { result ≡ true → (s.written ≡ true) × (is_over s.failed s.count (drop s.taken (take s.end input.now)) ≡ true) }
 {
     if !s.written {
@@ -190,16 +206,20 @@ fn finish<W: Write, E: Write>(
     true
 }
 
-// The lines of the 512 bytes that are read at once fit into the text, so that each piece is served whole.
-fn main(rt: HostRuntime) -> ExitCode {
-    let mut reader = rt.stdin();
-    let mut writer = rt.stdout();
-    let mut errors = rt.stderr();
+// Serves the whole input; false, with a message on standard error, where a read or a write failed. The lines of the 512 bytes that are read
+// at once fit into the text, so that each piece is served whole.
+fn run<R: Read, W: Write, E: Write>(reader: &mut R, writer: &mut W, errors: &mut E) -> bool
+    ensures prints { result ≡ true → IfSome (R.remaining reader.old) (λ input. Appends (W.contents writer.old) (W.contents writer.new) (program_text input)) }
+{
     let mut book = [0u8; 49152];
     let mut input = [0u8; 512];
     let mut text = [0u8; 65536];
-    let s = serve(&mut reader, &mut writer, &mut book, &mut input, &mut text);
-    if finish(&mut writer, &mut errors, &input, &mut text, s) {
+    let s = serve(reader, writer, &mut book, &mut input, &mut text);
+    finish(writer, errors, &input, &mut text, s)
+}
+
+fn main(rt: HostRuntime) -> ExitCode {
+    if run(&mut rt.stdin(), &mut rt.stdout(), &mut rt.stderr()) {
         ExitCode::SUCCESS
     } else {
         ExitCode::FAILURE

@@ -1,0 +1,2 @@
+-- What the program's promises of its reader and writer rest on.
+mod Streams

@@ -1,0 +1,2 @@
+-- The program's definitions.
+pub mod Streams
