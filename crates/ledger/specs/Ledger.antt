@@ -145,7 +145,7 @@ pub record Holds (b : List ℕ) (p : Paper) (calls : List Call) : Type 0 where
   pub agrees : Agrees (state (book_after b calls)) (paper_after p calls)
 
 -- demand 3: whatever the book held before, and whatever stood on the paper. It speaks of the engine through the promises of the exported
--- entries, whose answers and books are callAnswer, callBook and readAnswer for all lent bytes, and whose reads leave the book as it was
+-- entries, whose answers and books are call_answer, call_book and read_answer for all lent bytes, and whose reads leave the book as it was
 abbrev pub Demand3 : Type 0
 Demand3 = (b : List ℕ) (p : Paper) (bytes : List ℕ) (calls : List Call) → Opened b bytes → Holds b p (send bytes ∷ calls)
 

@@ -29,11 +29,11 @@ module _ (k : ℕ) (fields : List ℕ) where
   image_length zero = start_first k
   image_length (suc j) = simp (length-append, image_length j, bytes_length) (sym (start_next k j) ∙ ap (offset_of k) (add-one j))
 
-  -- a whole recordBytes is as long as the place that it ends at
+  -- a whole record_bytes is as long as the place that it ends at
   whole : (j : ℕ) → take (offset_of k j) (record_bytes_to k fields j) ≡ record_bytes_to k fields j
   whole j = take_all (offset_of k j) (record_bytes_to k fields j) (omega (arith, image_length j))
 
-  -- up to a field, a longer recordBytes is the shorter
+  -- up to a field, a longer record_bytes is the shorter
   pub image_take : (j n : ℕ) → j ≤ n → take (offset_of k j) (record_bytes_to k fields n) ≡ record_bytes_to k fields j
   image_take j zero h = let e : j ≡ 0 = omega arith in rw e (whole 0)
   image_take j (suc n) h =
