@@ -91,7 +91,7 @@ test-tool: tool
 
 # The proved functions beside plain Rust, the engine beside the second program, the tool beside its calls: Markdown tables.
 bench: libraries tool $(DESK)
-	@printf '%s, %s processors; %s; %s.\n' "$$(lscpu | sed -n 's/^Model name: *//p')" "$$(nproc)" \
+	@printf '`%s`; %s, %s processors; %s; %s.\n' "$$(rt version)" "$$(lscpu | sed -n 's/^Model name: *//p')" "$$(nproc)" \
 		"$$(rustc --version | cut -d' ' -f1,2)" "$$(date -u +%Y-%m-%d)"
 	@cargo run --release --offline --locked --quiet --manifest-path tests/Cargo.toml --features engine --bin bench
 	@PYTHONDONTWRITEBYTECODE=1 python3 tests/tool/bench.py
