@@ -12,55 +12,54 @@ ghost use Rattle.rules.specs.SetUp.{deposited, withdrawn};
 ghost use Rattle.rules.specs.Stock.{holding, position_from};
 ghost use Rattle.accounts.specs.Accounts.{account_code, AccountRoom, AccountHolds};
 
-use book::layout::{ACCOUNTS, EXPOSURE_GIVERS, IN_USE, LOTS, MODES, POSITIONS};
+use book::Book;
+use book::layout::Table;
 use limits::GREATEST_NOMINAL;
 use record_kinds::Fields;
 
 // The nominal of security i in exposure e, where it is used and the participant's.
-fn position_from(book: &[u8], p: usize, i: usize, e: usize) -> u64
-    requires { (length book.now ≡ book_length) × (i < 64) × (e < 64) }
+fn position_from(book: &Book, p: usize, i: usize, e: usize) -> u64
+    requires { (i < 64) × (e < 64) }
     ensures { (result ≡ position_from (state book.now) p i e) × (result ≤ 4294967295) }
 {
-    if book::get(book, IN_USE, e) != 1 {
+    if book::get(book, Table::InUse, e) != 1 {
         return 0;
     }
-    if book::get(book, EXPOSURE_GIVERS, e) != p as u64 {
+    if book::get(book, Table::ExposureGivers, e) != p as u64 {
         return 0;
     }
-    book::get(book, POSITIONS, 64 * e + i)
+    book::get(book, Table::Positions, 64 * e + i)
 }
 
 // What a participant holds of a security: its account and the positions of its exposures.
-pub fn holding_of(book: &[u8], p: usize, i: usize) -> u64
-    requires { (length book.now ≡ book_length) × (p < 32) × (i < 64) }
+pub fn holding_of(book: &Book, p: usize, i: usize) -> u64
+    requires { (p < 32) × (i < 64) }
     ensures { (result ≡ holding (state book.now) p i) × (result ≤ 300000000000) }
 {
     let mut sum: u64 = 0;
-    let mut e: usize = 0;
-    while e < 64 {
+    for e in 0..64 {
         sum += position_from(book, p, i, e);
-        e += 1;
     }
-    book::get(book, ACCOUNTS, 64 * p + i) + sum
+    book::get(book, Table::Accounts, 64 * p + i) + sum
 }
 
 // 5 where the participant or the security of a deposit or withdrawal is not set up, else 0.
-fn account_code(book: &[u8], p: usize, i: usize) -> u64
-    requires { (length book.now ≡ book_length) × (p < 32) × (i < 64) }
+fn account_code(book: &Book, p: usize, i: usize) -> u64
+    requires { (p < 32) × (i < 64) }
     ensures { result ≡ account_code (state book.now) p i }
 {
-    if book::get(book, MODES, p) == 0 {
+    if book::get(book, Table::Modes, p) == 0 {
         return 5;
     }
-    if book::get(book, LOTS, i) == 0 {
+    if book::get(book, Table::Lots, i) == 0 {
         return 5;
     }
     0
 }
 
 // 4: the code of a deposit.
-pub fn deposit_code(book: &[u8], fields: &Fields) -> u64
-    requires { (length book.now ≡ book_length) × (are_legal 4 fields.now ≡ true) }
+pub fn deposit_code(book: &Book, fields: &Fields) -> u64
+    requires { are_legal 4 fields.now ≡ true }
     ensures { result ≡ lowest (deposit_rules (state book.now) fields.now) }
 {
     let p = fields[0] as usize;
@@ -75,8 +74,8 @@ pub fn deposit_code(book: &[u8], fields: &Fields) -> u64
 }
 
 // 5: the code of a withdrawal.
-pub fn withdrawal_code(book: &[u8], fields: &Fields) -> u64
-    requires { (length book.now ≡ book_length) × (are_legal 5 fields.now ≡ true) }
+pub fn withdrawal_code(book: &Book, fields: &Fields) -> u64
+    requires { are_legal 5 fields.now ≡ true }
     ensures { result ≡ lowest (withdrawal_rules (state book.now) fields.now) }
 {
     let p = fields[0] as usize;
@@ -84,28 +83,28 @@ pub fn withdrawal_code(book: &[u8], fields: &Fields) -> u64
     if account_code(book, p, i) != 0 {
         return 5;
     }
-    if book::get(book, ACCOUNTS, 64 * p + i) < fields[2] {
+    if book::get(book, Table::Accounts, 64 * p + i) < fields[2] {
         return 10;
     }
     0
 }
 
 // 4: adds to an account.
-pub fn deposit(book: &mut [u8], fields: &Fields)
-    requires { (length book.old ≡ book_length) × (are_legal 4 fields.now ≡ true) × AccountRoom (state book.old) fields.now }
+pub fn deposit(book: &mut Book, fields: &Fields)
+    requires { (are_legal 4 fields.now ≡ true) × AccountRoom (state book.old) fields.now }
     ensures { state book.new ≡ (deposited (state book.old) fields.now).state }
 {
     let k = 64 * fields[0] as usize + fields[1] as usize;
-    let x = book::get(book, ACCOUNTS, k);
-    book::set(book, ACCOUNTS, k, x + fields[2]);
+    let x = book::get(book, Table::Accounts, k);
+    book::set(book, Table::Accounts, k, x + fields[2]);
 }
 
 // 5: takes from an account.
-pub fn withdraw(book: &mut [u8], fields: &Fields)
-    requires { (length book.old ≡ book_length) × (are_legal 5 fields.now ≡ true) × AccountHolds (state book.old) fields.now }
+pub fn withdraw(book: &mut Book, fields: &Fields)
+    requires { (are_legal 5 fields.now ≡ true) × AccountHolds (state book.old) fields.now }
     ensures { state book.new ≡ (withdrawn (state book.old) fields.now).state }
 {
     let k = 64 * fields[0] as usize + fields[1] as usize;
-    let x = book::get(book, ACCOUNTS, k);
-    book::set(book, ACCOUNTS, k, x - fields[2]);
+    let x = book::get(book, Table::Accounts, k);
+    book::set(book, Table::Accounts, k, x - fields[2]);
 }

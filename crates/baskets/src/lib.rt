@@ -75,10 +75,8 @@ fn earliest_quote(columns: &[u64; 256]) -> u64
     ensures { NoneBefore result 64 columns.now }
 {
     let mut day = LAST_DAY;
-    let mut i: usize = 0;
-    while i < 64 {
+    for i in 0..64 {
         day = earlier_quote(day, securities::security_at(columns, i));
-        i += 1;
     }
     day
 }

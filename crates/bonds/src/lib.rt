@@ -8,52 +8,53 @@ ghost use Rattle.rules.specs.Stock.{pledge, give_back, eligible_for, pick_for, f
 ghost use Rattle.eligibility.specs.Fresh.{FreshBaskets};
 ghost use Rattle.bonds.specs.Moves.{Pledging, GivingBack, Pickable, Freeable};
 
-use book::layout::{ACCOUNTS, EXPOSURE_GIVERS, POSITIONS};
+use book::Book;
+use book::layout::Table;
 use picking::Outcome;
 
 // Bonds go from the giver's account into the exposure's position.
-pub fn pledge(book: &mut [u8], e: usize, nominals: &[u64; 64])
-    requires { (length book.old ≡ book_length) × Pledging (state book.old) e nominals.now }
+pub fn pledge(book: &mut Book, e: usize, nominals: &[u64; 64])
+    requires { Pledging (state book.old) e nominals.now }
     ensures { state book.new ≡ pledge (state book.old) e nominals.now }
 {
-    let giver = book::get(book, EXPOSURE_GIVERS, e) as usize;
-    book::lower(book, ACCOUNTS, 64 * giver, nominals);
-    book::raise(book, POSITIONS, 64 * e, nominals);
+    let giver = book::get(book, Table::ExposureGivers, e) as usize;
+    book::lower(book, Table::Accounts, 64 * giver, nominals);
+    book::raise(book, Table::Positions, 64 * e, nominals);
 }
 
 // Bonds go from the exposure's position back into the giver's account.
-pub fn give_back(book: &mut [u8], e: usize, nominals: &[u64; 64])
-    requires { (length book.old ≡ book_length) × GivingBack (state book.old) e nominals.now }
+pub fn give_back(book: &mut Book, e: usize, nominals: &[u64; 64])
+    requires { GivingBack (state book.old) e nominals.now }
     ensures { state book.new ≡ give_back (state book.old) e nominals.now }
 {
-    let owner = book::get(book, EXPOSURE_GIVERS, e) as usize;
-    book::lower(book, POSITIONS, 64 * e, nominals);
-    book::raise(book, ACCOUNTS, 64 * owner, nominals);
+    let owner = book::get(book, Table::ExposureGivers, e) as usize;
+    book::lower(book, Table::Positions, 64 * e, nominals);
+    book::raise(book, Table::Accounts, 64 * owner, nominals);
 }
 
 // Picks an amount for an exposure from its giver's account.
 pub fn pick_for(
-    book: &[u8],
+    book: &Book,
     columns: &[u64; 256],
     since: &[u64; 16],
     e: usize,
     amount: u64,
 ) -> Outcome
-    requires { (length book.now ≡ book_length) × Pickable (state book.now) e × (columns.now ≡ columns_of (state book.now)) × FreshBaskets (state book.now) since.now }
+    requires { Pickable (state book.now) e × (columns.now ≡ columns_of (state book.now)) × FreshBaskets (state book.now) since.now }
     ensures { result ≡ pick_for (state book.now) e (eligible_for (state book.now) e) amount }
 {
-    let giver = book::get(book, EXPOSURE_GIVERS, e) as usize;
-    let account = book::row_at(book, ACCOUNTS, 64 * giver);
+    let giver = book::get(book, Table::ExposureGivers, e) as usize;
+    let account = book::row_at(book, Table::Accounts, 64 * giver);
     let x = eligibility::eligibility_of(book, since, e);
     picking::pick_for(&account, columns, x, amount)
 }
 
 // Frees an exposure's position down to an amount, and gives the bonds back.
-pub fn free_down(book: &mut [u8], columns: &[u64; 256], e: usize, amount: u64)
-    requires { (length book.old ≡ book_length) × Freeable (state book.old) e × (columns.now ≡ columns_of (state book.old)) }
+pub fn free_down(book: &mut Book, columns: &[u64; 256], e: usize, amount: u64)
+    requires { Freeable (state book.old) e × (columns.now ≡ columns_of (state book.old)) }
     ensures { state book.new ≡ give_back (state book.old) e (free_for (state book.old) e amount).nominals }
 {
-    let position = book::row_at(book, POSITIONS, 64 * e);
+    let position = book::row_at(book, Table::Positions, 64 * e);
     let freed = picking::free(&position, columns, amount);
     let nominals = freed.nominals;
     give_back(book, e, &nominals);

@@ -2,3 +2,4 @@ pub mod Fits
 pub mod Layout
 pub mod Row
 pub mod State
+pub mod Tables

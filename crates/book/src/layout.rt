@@ -1,152 +1,149 @@
 // The layout in numbers: where each table begins and how many bytes a row has. specs/Layout.antt has the rows.
-ghost use Rattle.std.specs.Prelude.{◌≡◌, ◌<◌};
-ghost use Rattle.book.specs.Layout.{base_of, width_of, table_count};
+ghost use Rattle.std.specs.Prelude.{◌≡◌};
+ghost use Rattle.book.specs.Layout.{base_of, width_of};
+ghost use Rattle.book.specs.Tables.{number};
 
-pub const TODAY: usize = 0;
-
-pub const TOLERANCE: usize = 1;
-
-pub const NEXT_NUMBER: usize = 2;
-
-pub const LOTS: usize = 3;
-
-pub const PRICES: usize = 4;
-
-pub const HAIRCUTS: usize = 5;
-
-pub const QUOTE_DAYS: usize = 6;
-
-pub const MODES: usize = 7;
-
-pub const LISTS: usize = 8;
-
-pub const PARTIALS: usize = 9;
-
-pub const WAITING_MODES: usize = 10;
-
-pub const WAITING_LISTS: usize = 11;
-
-pub const WAITING_PARTIALS: usize = 12;
-
-pub const MAPS: usize = 13;
-
-pub const GREATEST_AGES: usize = 14;
-
-pub const NUMBERS: usize = 15;
-
-pub const REQUEST_KINDS: usize = 16;
-
-pub const SIDES: usize = 17;
-
-pub const GIVERS: usize = 18;
-
-pub const TAKERS: usize = 19;
-
-pub const BASKETS_OR_EXPOSURES: usize = 20;
-
-pub const AMOUNTS: usize = 21;
-
-pub const SETTLEMENTS: usize = 22;
-
-pub const CLOSINGS: usize = 23;
-
-pub const REFERENCES: usize = 24;
-
-pub const SETTLED_AMOUNTS: usize = 25;
-
-pub const PARTNERS: usize = 26;
-
-pub const PAIR_PARTIALS: usize = 27;
-
-pub const CANCELS: usize = 28;
-
-pub const ENDS: usize = 29;
-
-pub const IN_USE: usize = 30;
-
-pub const EXPOSURE_GIVERS: usize = 31;
-
-pub const EXPOSURE_TAKERS: usize = 32;
-
-pub const EXPOSURE_BASKETS: usize = 33;
-
-pub const EXPOSURE_CLOSINGS: usize = 34;
-
-pub const EXPOSURE_AMOUNTS: usize = 35;
-
-pub const ACCOUNTS: usize = 36;
-
-pub const POSITIONS: usize = 37;
-
-pub const SPARES: usize = 38;
-
-// Where a table begins. Tables of one size that follow each other share a line; where the table
-// is a constant, the compiler removes the comparisons.
-pub fn base_of(f: usize) -> usize
-    requires { f < table_count }
-    ensures { result ≡ base_of f }
-{
-    if f < LOTS {
-        return 4 * f;
-    }
-    if f < MODES {
-        return 12 + 256 * (f - LOTS);
-    }
-    if f < MAPS {
-        return 1036 + 128 * (f - MODES);
-    }
-    if f < NUMBERS {
-        return 1804 + 128 * (f - MAPS);
-    }
-    if f < SETTLEMENTS {
-        return 1996 + 1024 * (f - NUMBERS);
-    }
-    if f < SETTLED_AMOUNTS {
-        return 10188 + 1024 * (f - SETTLEMENTS);
-    }
-    if f < PARTNERS {
-        return 14284;
-    }
-    if f < IN_USE {
-        return 16332 + 1024 * (f - PARTNERS);
-    }
-    if f < ACCOUNTS {
-        return 20428 + 256 * (f - IN_USE);
-    }
-    if f < SPARES {
-        return 22220 + 8192 * (f - ACCOUNTS);
-    }
-    46796
+// The tables in the order in which they stand in the book, by what a row of each holds.
+#[derive(Clone, Copy, Debug, PartialEq, Eq)]
+pub enum Table {
+    // Today.
+    Today,
+    // Tolerance.
+    Tolerance,
+    // The next request number to be given.
+    NextNumber,
+    // Securities: the lot, 0 where not set up.
+    Lots,
+    // The price.
+    Prices,
+    // The haircut.
+    Haircuts,
+    // The quote day.
+    QuoteDays,
+    // Participants, the profile in force: 1 automatic, 2 list, 3 by hand, 0 where not set up.
+    Modes,
+    // The list, bit n is giver n.
+    Lists,
+    // 1 where partial settlement is allowed.
+    Partials,
+    // The change that waits for the next day: the same, 0 where none waits.
+    WaitingModes,
+    // Its list.
+    WaitingLists,
+    // Its partial.
+    WaitingPartials,
+    // Baskets: the map, 0 where not set up.
+    Maps,
+    // The greatest age.
+    GreatestAges,
+    // Requests: the number, 0 where the row is not used.
+    Numbers,
+    // 6 for a FOP, 7 for a return.
+    RequestKinds,
+    // 0 giver, 1 taker.
+    Sides,
+    // The giver.
+    Givers,
+    // The taker.
+    Takers,
+    // The basket of a FOP, the exposure of a return.
+    BasketsOrExposures,
+    // The amount.
+    Amounts,
+    // The settlement day.
+    Settlements,
+    // The closing day, 0 where none.
+    Closings,
+    // The reference.
+    References,
+    // The amount settled so far.
+    SettledAmounts,
+    // One more than the partner's row, 0 where unpaired.
+    Partners,
+    // 1 where both parties allowed partial when they paired.
+    PairPartials,
+    // 1 where its owner has cancelled it while paired.
+    Cancels,
+    // 1 where it has ended.
+    Ends,
+    // Exposures: 1 where the row is used.
+    InUse,
+    // The giver.
+    ExposureGivers,
+    // The taker.
+    ExposureTakers,
+    // The basket.
+    ExposureBaskets,
+    // The closing day, 0 where none.
+    ExposureClosings,
+    // The amount.
+    ExposureAmounts,
+    // Accounts: the nominal of security i of participant p, at 64 p + i.
+    Accounts,
+    // Positions: the nominal of security i in exposure e, at 64 e + i.
+    Positions,
+    // Nothing: always 0.
+    Spares,
 }
 
-// The bytes of a row of a table.
-pub fn width_of(f: usize) -> usize
-    requires { f < table_count }
-    ensures { result ≡ width_of f }
+// Where a table begins. Where the table is a constant, the compiler removes the match.
+#[tactic(auto, unfolding(crate::specs::Layout::base_of, laws::specs::Sum::sum))]
+pub fn base_of(table: Table) -> usize
+    ensures { result ≡ base_of (number table) }
 {
-    if f < MAPS {
-        return 4;
+    match table {
+        Table::Today => 0,
+        Table::Tolerance => 4,
+        Table::NextNumber => 8,
+        Table::Lots => 12,
+        Table::Prices => 268,
+        Table::Haircuts => 524,
+        Table::QuoteDays => 780,
+        Table::Modes => 1036,
+        Table::Lists => 1164,
+        Table::Partials => 1292,
+        Table::WaitingModes => 1420,
+        Table::WaitingLists => 1548,
+        Table::WaitingPartials => 1676,
+        Table::Maps => 1804,
+        Table::GreatestAges => 1932,
+        Table::Numbers => 1996,
+        Table::RequestKinds => 3020,
+        Table::Sides => 4044,
+        Table::Givers => 5068,
+        Table::Takers => 6092,
+        Table::BasketsOrExposures => 7116,
+        Table::Amounts => 8140,
+        Table::Settlements => 10188,
+        Table::Closings => 11212,
+        Table::References => 12236,
+        Table::SettledAmounts => 14284,
+        Table::Partners => 16332,
+        Table::PairPartials => 17356,
+        Table::Cancels => 18380,
+        Table::Ends => 19404,
+        Table::InUse => 20428,
+        Table::ExposureGivers => 20684,
+        Table::ExposureTakers => 20940,
+        Table::ExposureBaskets => 21196,
+        Table::ExposureClosings => 21452,
+        Table::ExposureAmounts => 21708,
+        Table::Accounts => 22220,
+        Table::Positions => 30412,
+        Table::Spares => 46796,
     }
-    if f < GREATEST_AGES {
-        return 8;
+}
+
+// The bytes of a row of a table: eight for maps, amounts and references, else four.
+pub fn width_of(table: Table) -> usize
+    ensures { result ≡ width_of (number table) }
+{
+    match table {
+        Table::Maps
+        | Table::Amounts
+        | Table::References
+        | Table::SettledAmounts
+        | Table::ExposureAmounts => 8,
+        _ => 4,
     }
-    if f < AMOUNTS {
-        return 4;
-    }
-    if f < SETTLEMENTS {
-        return 8;
-    }
-    if f < REFERENCES {
-        return 4;
-    }
-    if f < PARTNERS {
-        return 8;
-    }
-    if f < EXPOSURE_AMOUNTS {
-        return 4;
-    }
-    if f < ACCOUNTS {
-        return 8;
-    }
-    4
 }

@@ -4,12 +4,18 @@
 
 ghost use Rattle.std.specs.Prelude.{◌≡◌, ◌++◌, ◌+◌, ◌*◌, ◌^◌, ◌≤◌, ◌<◌, length, take, drop};
 ghost use Rattle.laws.specs.Numbers.{number_at, bytes_of};
-ghost use Rattle.book.specs.Layout.{rows_of, width_of, base_of, book_length, table_count};
+ghost use Rattle.book.specs.Layout.{rows_of, width_of, base_of, book_length};
 ghost use Rattle.book.specs.Row.{RowRaisable, RaisedRow, RowLowerable, LoweredRow};
 ghost use Rattle.book.specs.State.{state, put, row_at, columns_of, raised, lowered};
+ghost use Rattle.book.specs.Tables.{number};
 ghost use Rattle.book.specs.Fits.{Raisable, Lowerable};
 
 pub mod layout;
+
+use layout::Table;
+
+// The book's bytes.
+pub type Book = [u8; 49152];
 
 // Four bytes as one number, the highest first.
 fn join(a: u8, b: u8, c: u8, d: u8) -> u64
@@ -55,12 +61,12 @@ fn put_long(book: &mut [u8], at: usize, x: u64)
 }
 
 // The number in the row i of the table f.
-pub fn get(book: &[u8], f: usize, i: usize) -> u64
-    requires { (length book.now ≡ book_length) × (f < table_count) × (i < rows_of f) }
-    ensures { result ≡ state book.now f i }
+pub fn get(book: &Book, table: Table, i: usize) -> u64
+    requires { (i < rows_of (number table)) }
+    ensures { result ≡ state book.now (number table) i }
 {
-    let at = layout::base_of(f);
-    let w = layout::width_of(f);
+    let at = layout::base_of(table);
+    let w = layout::width_of(table);
     if w == 4 {
         word(book, at + 4 * i)
     } else {
@@ -69,12 +75,12 @@ pub fn get(book: &[u8], f: usize, i: usize) -> u64
 }
 
 // Writes a number into the row i of the table f; every other number stays.
-pub fn set(book: &mut [u8], f: usize, i: usize, x: u64)
-    requires { (length book.old ≡ book_length) × (f < table_count) × (i < rows_of f) × (x < 256 ^ width_of f) }
-    ensures { state book.new ≡ put (state book.old) f i x }
+pub fn set(book: &mut Book, table: Table, i: usize, x: u64)
+    requires { (i < rows_of (number table)) × (x < 256 ^ width_of (number table)) }
+    ensures { state book.new ≡ put (state book.old) (number table) i x }
 {
-    let at = layout::base_of(f);
-    let w = layout::width_of(f);
+    let at = layout::base_of(table);
+    let w = layout::width_of(table);
     if w == 4 {
         put_word(book, at + 4 * i, x);
     } else {
@@ -83,22 +89,19 @@ pub fn set(book: &mut [u8], f: usize, i: usize, x: u64)
 }
 
 // The 64 numbers of a table from a row on.
-pub fn row_at(book: &[u8], f: usize, start: usize) -> [u64; 64]
-    requires { (length book.now ≡ book_length) × (f < table_count) × (start + 64 ≤ rows_of f) }
-    ensures { result ≡ row_at (state book.now) f start }
+pub fn row_at(book: &Book, table: Table, start: usize) -> [u64; 64]
+    requires { (start + 64 ≤ rows_of (number table)) }
+    ensures { result ≡ row_at (state book.now) (number table) start }
 {
     let mut row = [0u64; 64];
-    let mut i: usize = 0;
-    while i < 64 {
-        row[i] = get(book, f, start + i);
-        i += 1;
+    for i in 0..64 {
+        row[i] = get(book, table, start + i);
     }
     row
 }
 
 // The securities' four columns: lots, prices, haircuts, quote days.
-pub fn columns(book: &[u8]) -> [u64; 256]
-    requires { length book.now ≡ book_length }
+pub fn columns(book: &Book) -> [u64; 256]
     ensures { result ≡ columns_of (state book.now) }
 {
     let mut columns = [0u64; 256];
@@ -111,11 +114,11 @@ pub fn columns(book: &[u8]) -> [u64; 256]
 }
 
 // Where 64 numbers of a table of four bytes a row begin.
-fn row_place(f: usize, start: usize) -> usize
-    requires { (f < table_count) × (width_of f ≡ 4) × (start + 64 ≤ rows_of f) }
-    ensures { (result ≡ base_of f + 4 * start) × (result + 256 ≤ book_length) }
+fn row_place(table: Table, start: usize) -> usize
+    requires { (width_of (number table) ≡ 4) × (start + 64 ≤ rows_of (number table)) }
+    ensures { (result ≡ base_of (number table) + 4 * start) × (result + 256 ≤ book_length) }
 {
-    layout::base_of(f) + 4 * start
+    layout::base_of(table) + 4 * start
 }
 
 // Adds to each of 64 numbers of four bytes.
@@ -132,11 +135,11 @@ fn raise_row(row: &mut [u8], by: &[u64; 64])
 }
 
 // Adds to the 64 numbers of an account or a position: the row is handed on by itself to be written.
-pub fn raise(book: &mut [u8], f: usize, start: usize, by: &[u64; 64])
-    requires { (length book.old ≡ book_length) × (f < table_count) × (width_of f ≡ 4) × (start + 64 ≤ rows_of f) × Raisable (state book.old) f start by.now }
-    ensures { state book.new ≡ raised (state book.old) f start by.now }
+pub fn raise(book: &mut Book, table: Table, start: usize, by: &[u64; 64])
+    requires { (width_of (number table) ≡ 4) × (start + 64 ≤ rows_of (number table)) × Raisable (state book.old) (number table) start by.now }
+    ensures { state book.new ≡ raised (state book.old) (number table) start by.now }
 {
-    let a = row_place(f, start);
+    let a = row_place(table, start);
     let e = a + 256;
     raise_row(&mut book[a..e], by);
 }
@@ -155,11 +158,11 @@ fn lower_row(row: &mut [u8], by: &[u64; 64])
 }
 
 // Takes from the 64 numbers of an account or a position: the row is handed on by itself to be written.
-pub fn lower(book: &mut [u8], f: usize, start: usize, by: &[u64; 64])
-    requires { (length book.old ≡ book_length) × (f < table_count) × (width_of f ≡ 4) × (start + 64 ≤ rows_of f) × Lowerable (state book.old) f start by.now }
-    ensures { state book.new ≡ lowered (state book.old) f start by.now }
+pub fn lower(book: &mut Book, table: Table, start: usize, by: &[u64; 64])
+    requires { (width_of (number table) ≡ 4) × (start + 64 ≤ rows_of (number table)) × Lowerable (state book.old) (number table) start by.now }
+    ensures { state book.new ≡ lowered (state book.old) (number table) start by.now }
 {
-    let a = row_place(f, start);
+    let a = row_place(table, start);
     let e = a + 256;
     lower_row(&mut book[a..e], by);
 }

@@ -13,17 +13,18 @@ ghost use Rattle.totals.specs.Totals.{totals_of};
 ghost use Rattle.day_rows.specs.Parts.{tried};
 ghost use Rattle.day_change.specs.Parts.{profile_waits};
 
-use book::layout::{LISTS, MODES, PARTIALS, TODAY, WAITING_LISTS, WAITING_MODES, WAITING_PARTIALS};
+use book::Book;
+use book::layout::Table;
 use calendar::LAST_DAY;
 use day_rows::Pass;
 use totals::Totals;
 
 // 12: the code. There may be no next day.
-pub fn next_day_code(book: &[u8]) -> u64
-    requires { (length book.now ≡ book_length) × (sound (state book.now) ≡ true) }
+pub fn next_day_code(book: &Book) -> u64
+    requires { sound (state book.now) ≡ true }
     ensures { result ≡ lowest (next_day_rules (state book.now)) }
 {
-    let today = book::get(book, TODAY, 0);
+    let today = book::get(book, Table::Today, 0);
     if LAST_DAY < calendar::next_open_day(today) {
         return 7;
     }
@@ -31,8 +32,8 @@ pub fn next_day_code(book: &[u8]) -> u64
 }
 
 // Copies a row's number from one table to another.
-fn copy(book: &mut [u8], to: usize, from: usize, i: usize)
-    requires { (length book.old ≡ book_length) × (to < table_count) × (from < table_count) × (i < rows_of to) × (i < rows_of from) × (width_of from ≡ width_of to) }
+fn copy(book: &mut Book, to: usize, from: usize, i: usize)
+    requires { (to < table_count) × (from < table_count) × (i < rows_of to) × (i < rows_of from) × (width_of from ≡ width_of to) }
     ensures { state book.new ≡ put (state book.old) to i (state book.old from i) }
 {
     let x = book::get(book, from, i);
@@ -40,45 +41,42 @@ fn copy(book: &mut [u8], to: usize, from: usize, i: usize)
 }
 
 // The profile that waits comes into force, where one does.
-fn change_profile(book: &mut [u8], p: usize)
-    requires { (length book.old ≡ book_length) × (p < 32) }
+fn change_profile(book: &mut Book, p: usize)
+    requires { p < 32 }
     ensures { state book.new ≡ tried profile_waits change_takes_effect (state book.old) p }
 {
-    if book::get(book, WAITING_MODES, p) != 0 {
-        copy(book, MODES, WAITING_MODES, p);
-        copy(book, LISTS, WAITING_LISTS, p);
-        copy(book, PARTIALS, WAITING_PARTIALS, p);
-        day_rows::clear(book, 3, WAITING_MODES, p);
+    if book::get(book, Table::WaitingModes, p) != 0 {
+        copy(book, Table::Modes, Table::WaitingModes, p);
+        copy(book, Table::Lists, Table::WaitingLists, p);
+        copy(book, Table::Partials, Table::WaitingPartials, p);
+        day_rows::clear(book, 3, Table::WaitingModes, p);
     }
 }
 
 // The profiles that wait come into force.
-fn change_profiles(book: &mut [u8])
-    requires { length book.old ≡ book_length }
+fn change_profiles(book: &mut Book)
     ensures { state book.new ≡ profiles_changed (state book.old) }
 {
-    let mut p: usize = 0;
-    while p < 32 {
+    for p in 0..32 {
         change_profile(book, p);
-        p += 1;
     }
 }
 
 // Goes to the next open day, with the profiles that waited for it: the day.
-fn begin_day(book: &mut [u8]) -> u64
-    requires { (length book.old ≡ book_length) × (sound (state book.old) ≡ true) × (lowest (next_day_rules (state book.old)) ≡ 0) }
+fn begin_day(book: &mut Book) -> u64
+    requires { (sound (state book.old) ≡ true) × (lowest (next_day_rules (state book.old)) ≡ 0) }
     ensures { (result ≡ next_open_day (state book.old today 0)) × (state book.new ≡ on_next_day (state book.old)) }
 {
-    let today = book::get(book, TODAY, 0);
+    let today = book::get(book, Table::Today, 0);
     let next = calendar::next_open_day(today);
-    book::set(book, TODAY, 0, next);
+    book::set(book, Table::Today, 0, next);
     change_profiles(book);
     next
 }
 
 // 12: the step, pass by pass in the paper's order.
-pub fn next_day(book: &mut [u8]) -> Totals
-    requires { (length book.old ≡ book_length) × (sound (state book.old) ≡ true) × (lowest (next_day_rules (state book.old)) ≡ 0) }
+pub fn next_day(book: &mut Book) -> Totals
+    requires { (sound (state book.old) ≡ true) × (lowest (next_day_rules (state book.old)) ≡ 0) }
     ensures { (result ≡ totals_of (next_day (state book.old))) × (state book.new ≡ (next_day (state book.old)).state) }
 {
     let done = day_rows::drop_rows(book, Pass::Done);

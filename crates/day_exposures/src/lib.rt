@@ -13,46 +13,42 @@ ghost use Rattle.rules.specs.Stock.{position_of, give_back};
 ghost use Rattle.day_rows.specs.Parts.{tried};
 ghost use Rattle.day_exposures.specs.Parts.{amount_closed, is_held, security_back, Entire, Closable, is_not_of, RowSlot, Marked, MarkedFor};
 
-use book::layout::{
-    ACCOUNTS, BASKETS_OR_EXPOSURES, CLOSINGS, EXPOSURE_AMOUNTS, EXPOSURE_GIVERS, GIVERS, IN_USE,
-    NUMBERS, PARTNERS, POSITIONS, REQUEST_KINDS, TAKERS,
-};
+use book::Book;
+use book::layout::Table;
 
 // Gives one security of a position back to its owner, where it is held.
-fn give_security(book: &mut [u8], owner: usize, e: usize, i: usize)
-    requires { (length book.old ≡ book_length) × (owner < 32) × (e < 64) × (i < 64) × (state book.old accounts (64 * owner + i) + state book.old positions (64 * e + i) < 4294967296) }
+fn give_security(book: &mut Book, owner: usize, e: usize, i: usize)
+    requires { (owner < 32) × (e < 64) × (i < 64) × (state book.old accounts (64 * owner + i) + state book.old positions (64 * e + i) < 4294967296) }
     ensures { state book.new ≡ tried (is_held e) (security_back owner e) (state book.old) i }
 {
-    let nominal = book::get(book, POSITIONS, 64 * e + i);
+    let nominal = book::get(book, Table::Positions, 64 * e + i);
     if nominal != 0 {
-        let before = book::get(book, ACCOUNTS, 64 * owner + i);
-        book::set(book, ACCOUNTS, 64 * owner + i, before + nominal);
-        book::set(book, POSITIONS, 64 * e + i, 0);
+        let before = book::get(book, Table::Accounts, 64 * owner + i);
+        book::set(book, Table::Accounts, 64 * owner + i, before + nominal);
+        book::set(book, Table::Positions, 64 * e + i, 0);
     }
 }
 
 // Gives a whole position back. Most securities are not held: looking at each takes less time than adding rows of 64.
-fn give_position(book: &mut [u8], e: usize)
-    requires { (length book.old ≡ book_length) × Entire (state book.old) e }
+fn give_position(book: &mut Book, e: usize)
+    requires { Entire (state book.old) e }
     ensures { state book.new ≡ give_back (state book.old) e (position_of (state book.old) e) }
 {
-    let owner = book::get(book, EXPOSURE_GIVERS, e) as usize;
-    let mut i: usize = 0;
-    while i < 64 {
+    let owner = book::get(book, Table::ExposureGivers, e) as usize;
+    for i in 0..64 {
         give_security(book, owner, e, i);
-        i += 1;
     }
 }
 
 // Closes an exposure whose closing date is reached, and gives its position back: the amount closed.
-fn close_exposure(book: &mut [u8], e: usize) -> u64
-    requires { (length book.old ≡ book_length) × (e < 64) × Closable (state book.old) }
+fn close_exposure(book: &mut Book, e: usize) -> u64
+    requires { (e < 64) × Closable (state book.old) }
     ensures { (result ≡ amount_closed (state book.old) e) × (state book.new ≡ tried is_exposure_closed exposure_closed (state book.old) e) }
 {
     if day_rows::is_exposure_closed(book, e) {
-        let amount = book::get(book, EXPOSURE_AMOUNTS, e);
+        let amount = book::get(book, Table::ExposureAmounts, e);
         give_position(book, e);
-        book::set(book, EXPOSURE_AMOUNTS, e, 0);
+        book::set(book, Table::ExposureAmounts, e, 0);
         amount
     } else {
         0
@@ -60,128 +56,119 @@ fn close_exposure(book: &mut [u8], e: usize) -> u64
 }
 
 // Closes the exposures whose closing date is reached: the amounts closed.
-pub fn close_exposures(book: &mut [u8]) -> u64
-    requires { (length book.old ≡ book_length) × (sound (state book.old) ≡ true) }
+pub fn close_exposures(book: &mut Book) -> u64
+    requires { sound (state book.old) ≡ true }
     ensures { (result ≡ sum (amount_closed (state book.old)) 64) × (state book.new ≡ exposures_closed (state book.old)) }
 {
     let mut closed: u64 = 0;
-    let mut e: usize = 0;
-    while e < 64 {
+    for e in 0..64 {
         closed += close_exposure(book, e);
-        e += 1;
     }
     closed
 }
 
 // Does the row i belong to the exposure e: a return that names it, a FOP pair with its key?
-fn does_belong(book: &[u8], e: usize, i: usize) -> bool
-    requires { (length book.now ≡ book_length) × (e < 64) × (i < 256) }
+fn does_belong(book: &Book, e: usize, i: usize) -> bool
+    requires { (e < 64) × (i < 256) }
     ensures { result ≡ belongs (state book.now) e i }
 {
-    if book::get(book, NUMBERS, i) == 0 {
+    if book::get(book, Table::Numbers, i) == 0 {
         return false;
     }
-    let kind = book::get(book, REQUEST_KINDS, i);
+    let kind = book::get(book, Table::RequestKinds, i);
     if kind == 7 {
-        return book::get(book, BASKETS_OR_EXPOSURES, i) == e as u64;
+        return book::get(book, Table::BasketsOrExposures, i) == e as u64;
     }
     if kind != 6 {
         return false;
     }
-    let partner = book::get(book, PARTNERS, i);
+    let partner = book::get(book, Table::Partners, i);
     if partner == 0 {
         return false;
     }
     exposure_search::has_key(
         book,
-        book::get(book, GIVERS, i),
-        book::get(book, TAKERS, i),
-        book::get(book, BASKETS_OR_EXPOSURES, i),
-        book::get(book, CLOSINGS, i),
+        book::get(book, Table::Givers, i),
+        book::get(book, Table::Takers, i),
+        book::get(book, Table::BasketsOrExposures, i),
+        book::get(book, Table::Closings, i),
         e,
     )
 }
 
 // Does no row belong to the exposure e?
-fn does_none_belong(book: &[u8], e: usize) -> bool
-    requires { (length book.now ≡ book_length) × (e < 64) }
+fn does_none_belong(book: &Book, e: usize) -> bool
+    requires { e < 64 }
     ensures { result ≡ all (is_not_of (state book.now) e) 256 0 }
 {
-    let mut i: usize = 0;
-    while i < 256 {
+    for i in 0..256 {
         if does_belong(book, e, i) {
             return false;
         }
-        i += 1;
     }
     true
 }
 
 // The slot of the exposure that a row belongs to; any slot for a row that belongs to none, as 1,024 for one that is not in use.
-fn row_slot(book: &[u8], i: usize) -> usize
-    requires { (length book.now ≡ book_length) × (i < 256) }
+fn row_slot(book: &Book, i: usize) -> usize
+    requires { i < 256 }
     ensures { RowSlot (state book.now) i result }
 {
-    if book::get(book, NUMBERS, i) == 0 {
+    if book::get(book, Table::Numbers, i) == 0 {
         return 1024;
     }
-    let object = book::get(book, BASKETS_OR_EXPOSURES, i);
-    if book::get(book, REQUEST_KINDS, i) == 7 {
+    let object = book::get(book, Table::BasketsOrExposures, i);
+    if book::get(book, Table::RequestKinds, i) == 7 {
         if 64 <= object {
             return 1024;
         }
         return exposure_search::slot_of(book, object as usize);
     }
     exposure_search::key_slot(
-        book::get(book, GIVERS, i),
-        book::get(book, TAKERS, i),
+        book::get(book, Table::Givers, i),
+        book::get(book, Table::Takers, i),
         object,
-        book::get(book, CLOSINGS, i),
+        book::get(book, Table::Closings, i),
     )
 }
 
 // Is there a used exposure of amount 0? Only time depends on it.
-fn is_any_empty(book: &[u8]) -> bool
-    requires { length book.now ≡ book_length }
+fn is_any_empty(book: &Book) -> bool
 {
-    let mut e: usize = 0;
-    while e < 64 {
-        if book::get(book, IN_USE, e) == 1 {
-            if book::get(book, EXPOSURE_AMOUNTS, e) == 0 {
+    for e in 0..64 {
+        if book::get(book, Table::InUse, e) == 1 {
+            if book::get(book, Table::ExposureAmounts, e) == 0 {
                 return true;
             }
         }
-        e += 1;
     }
     false
 }
 
 // Marks the slots of the exposures that rows belong to. Where no used exposure has amount 0, no mark is read, and all stay set.
-fn mark_rows(marks: &mut [u8; 1025], book: &[u8])
-    requires { (length book.now ≡ book_length) × (marks.old ≡ replicate 1025 1) }
+fn mark_rows(marks: &mut [u8; 1025], book: &Book)
+    requires { marks.old ≡ replicate 1025 1 }
     ensures { Marked (state book.now) marks.new 256 }
 {
     if !is_any_empty(book) {
         return;
     }
     *marks = [0; 1025];
-    let mut i: usize = 0;
-    while i < 256 {
+    for i in 0..256 {
         let slot = row_slot(book, i);
         marks[slot] = 1;
-        i += 1;
     }
 }
 
 // Is a used exposure of amount 0, with no row that belongs to it? The rows are looked through only where its slot is marked.
-fn is_idle(book: &[u8], marks: &[u8; 1025], e: usize) -> bool
-    requires { (length book.now ≡ book_length) × (e < 64) × MarkedFor (state book.now) marks.now e }
+fn is_idle(book: &Book, marks: &[u8; 1025], e: usize) -> bool
+    requires { (e < 64) × MarkedFor (state book.now) marks.now e }
     ensures { result ≡ is_idle (state book.now) e }
 {
-    if book::get(book, IN_USE, e) != 1 {
+    if book::get(book, Table::InUse, e) != 1 {
         return false;
     }
-    if book::get(book, EXPOSURE_AMOUNTS, e) != 0 {
+    if book::get(book, Table::ExposureAmounts, e) != 0 {
         return false;
     }
     let slot = exposure_search::slot_of(book, e);
@@ -192,25 +179,22 @@ fn is_idle(book: &[u8], marks: &[u8; 1025], e: usize) -> bool
 }
 
 // Frees an exposure that is idle.
-fn free_exposure(book: &mut [u8], marks: &[u8; 1025], e: usize)
-    requires { (length book.old ≡ book_length) × (e < 64) × MarkedFor (state book.old) marks.now e }
+fn free_exposure(book: &mut Book, marks: &[u8; 1025], e: usize)
+    requires { (e < 64) × MarkedFor (state book.old) marks.now e }
     ensures { state book.new ≡ tried is_idle exposure_freed (state book.old) e }
 {
     if is_idle(book, marks, e) {
-        day_rows::clear(book, 6, IN_USE, e);
+        day_rows::clear(book, 6, Table::InUse, e);
     }
 }
 
 // Frees the exposures that are idle.
-pub fn free_exposures(book: &mut [u8])
-    requires { length book.old ≡ book_length }
+pub fn free_exposures(book: &mut Book)
     ensures { state book.new ≡ exposures_freed (state book.old) }
 {
     let mut marks = [1u8; 1025];
     mark_rows(&mut marks, book);
-    let mut e: usize = 0;
-    while e < 64 {
+    for e in 0..64 {
         free_exposure(book, &marks, e);
-        e += 1;
     }
 }

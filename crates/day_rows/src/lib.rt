@@ -11,10 +11,8 @@ ghost use Rattle.rules.specs.Sound.{sound};
 ghost use Rattle.row_tests.specs.Rows.{InRows};
 ghost use Rattle.day_rows.specs.Parts.{tried, drops, cleared, ReturnNamed};
 
-use book::layout::{
-    AMOUNTS, BASKETS_OR_EXPOSURES, CLOSINGS, ENDS, EXPOSURE_CLOSINGS, IN_USE, NUMBERS, PARTNERS,
-    REQUEST_KINDS, SETTLED_AMOUNTS, SETTLEMENTS, TODAY,
-};
+use book::Book;
+use book::layout::Table;
 
 // The passes that drop rows.
 #[derive(Clone, Copy)]
@@ -25,81 +23,80 @@ pub enum Pass {
 }
 
 // Has a row settled or ended, or waited unpaired up to today?
-fn is_done(book: &[u8], i: usize) -> bool
-    requires { (length book.now ≡ book_length) × (i < 256) }
+fn is_done(book: &Book, i: usize) -> bool
+    requires { i < 256 }
     ensures { result ≡ is_done (state book.now) i }
 {
-    if book::get(book, NUMBERS, i) == 0 {
+    if book::get(book, Table::Numbers, i) == 0 {
         return false;
     }
-    if book::get(book, AMOUNTS, i) <= book::get(book, SETTLED_AMOUNTS, i) {
+    if book::get(book, Table::Amounts, i) <= book::get(book, Table::SettledAmounts, i) {
         return true;
     }
-    if book::get(book, ENDS, i) == 1 {
+    if book::get(book, Table::Ends, i) == 1 {
         return true;
     }
-    if book::get(book, PARTNERS, i) != 0 {
+    if book::get(book, Table::Partners, i) != 0 {
         return false;
     }
-    book::get(book, SETTLEMENTS, i) <= book::get(book, TODAY, 0)
+    book::get(book, Table::Settlements, i) <= book::get(book, Table::Today, 0)
 }
 
 // Is a closing date reached?
-fn is_reached(book: &[u8], closing: u64) -> bool
-    requires { length book.now ≡ book_length }
+fn is_reached(book: &Book, closing: u64) -> bool
     ensures { result ≡ is_reached (state book.now) closing }
 {
     if closing == 0 {
         return false;
     }
-    closing <= book::get(book, TODAY, 0)
+    closing <= book::get(book, Table::Today, 0)
 }
 
 // Is a row one of a FOP pair, and its closing date reached? The date goes first: few are reached.
-fn is_closed_fop(book: &[u8], i: usize) -> bool
-    requires { (length book.now ≡ book_length) × (i < 256) }
+fn is_closed_fop(book: &Book, i: usize) -> bool
+    requires { i < 256 }
     ensures { result ≡ is_closed_fop (state book.now) i }
 {
-    if !is_reached(book, book::get(book, CLOSINGS, i)) {
+    if !is_reached(book, book::get(book, Table::Closings, i)) {
         return false;
     }
-    if book::get(book, REQUEST_KINDS, i) != 6 {
+    if book::get(book, Table::RequestKinds, i) != 6 {
         return false;
     }
-    if book::get(book, PARTNERS, i) == 0 {
+    if book::get(book, Table::Partners, i) == 0 {
         return false;
     }
-    book::get(book, NUMBERS, i) != 0
+    book::get(book, Table::Numbers, i) != 0
 }
 
 // Is an exposure used, and its closing date reached?
-pub fn is_exposure_closed(book: &[u8], e: usize) -> bool
-    requires { (length book.now ≡ book_length) × (e < 64) }
+pub fn is_exposure_closed(book: &Book, e: usize) -> bool
+    requires { e < 64 }
     ensures { result ≡ is_exposure_closed (state book.now) e }
 {
-    if book::get(book, IN_USE, e) != 1 {
+    if book::get(book, Table::InUse, e) != 1 {
         return false;
     }
-    is_reached(book, book::get(book, EXPOSURE_CLOSINGS, e))
+    is_reached(book, book::get(book, Table::ExposureClosings, e))
 }
 
 // Is a row a return, and the exposure that it names closed?
-fn is_closed_return(book: &[u8], i: usize) -> bool
-    requires { (length book.now ≡ book_length) × (i < 256) × ReturnNamed (state book.now) i }
+fn is_closed_return(book: &Book, i: usize) -> bool
+    requires { (i < 256) × ReturnNamed (state book.now) i }
     ensures { result ≡ is_closed_return (state book.now) i }
 {
-    if book::get(book, REQUEST_KINDS, i) != 7 {
+    if book::get(book, Table::RequestKinds, i) != 7 {
         return false;
     }
-    if book::get(book, NUMBERS, i) == 0 {
+    if book::get(book, Table::Numbers, i) == 0 {
         return false;
     }
-    is_exposure_closed(book, book::get(book, BASKETS_OR_EXPOSURES, i) as usize)
+    is_exposure_closed(book, book::get(book, Table::BasketsOrExposures, i) as usize)
 }
 
 // Does a pass drop a row?
-fn is_dropped(book: &[u8], pass: Pass, i: usize) -> bool
-    requires { (length book.now ≡ book_length) × (i < 256) × ReturnNamed (state book.now) i }
+fn is_dropped(book: &Book, pass: Pass, i: usize) -> bool
+    requires { (i < 256) × ReturnNamed (state book.now) i }
     ensures { result ≡ drops pass (state book.now) i }
 {
     match pass {
@@ -110,24 +107,22 @@ fn is_dropped(book: &[u8], pass: Pass, i: usize) -> bool
 }
 
 // Makes a row hold nothing in n tables from one on.
-pub fn clear(book: &mut [u8], n: usize, from: usize, i: usize)
-    requires { (length book.old ≡ book_length) × InRows n from i }
+pub fn clear(book: &mut Book, n: usize, from: usize, i: usize)
+    requires { InRows n from i }
     ensures { state book.new ≡ cleared (state book.old) n from i }
 {
-    let mut k: usize = 0;
-    while k < n {
+    for k in 0..n {
         book::set(book, from + k, i, 0);
-        k += 1;
     }
 }
 
 // Drops a row that is to be dropped: 1 where it was, else 0.
-fn drop_row(book: &mut [u8], pass: Pass, i: usize) -> u64
-    requires { (length book.old ≡ book_length) × (i < 256) × ReturnNamed (state book.old) i }
+fn drop_row(book: &mut Book, pass: Pass, i: usize) -> u64
+    requires { (i < 256) × ReturnNamed (state book.old) i }
     ensures { (result ≡ cond (drops pass (state book.old) i) 1 0) × (state book.new ≡ tried (drops pass) row_dropped (state book.old) i) }
 {
     if is_dropped(book, pass, i) {
-        clear(book, 15, NUMBERS, i);
+        clear(book, 15, Table::Numbers, i);
         1
     } else {
         0
@@ -135,15 +130,13 @@ fn drop_row(book: &mut [u8], pass: Pass, i: usize) -> u64
 }
 
 // Drops the rows that a pass drops: how many they are.
-pub fn drop_rows(book: &mut [u8], pass: Pass) -> u64
-    requires { (length book.old ≡ book_length) × (sound (state book.old) ≡ true) }
+pub fn drop_rows(book: &mut Book, pass: Pass) -> u64
+    requires { sound (state book.old) ≡ true }
     ensures { (result ≡ count (drops pass (state book.old)) 256 0) × (state book.new ≡ rows_dropped (drops pass) (state book.old)) }
 {
     let mut dropped: u64 = 0;
-    let mut i: usize = 0;
-    while i < 256 {
+    for i in 0..256 {
         dropped += drop_row(book, pass, i);
-        i += 1;
     }
     dropped
 }

@@ -8,60 +8,59 @@ ghost use Rattle.facts.specs.Good.{Good};
 ghost use Rattle.rules.specs.Settlement.{is_due};
 ghost use Rattle.due_pairs.specs.Due.{due_of, order_of, no_key, Collected, lesser_from, least_from};
 
-use book::layout::{
-    AMOUNTS, ENDS, NUMBERS, PARTNERS, REQUEST_KINDS, SETTLED_AMOUNTS, SETTLEMENTS, TODAY,
-};
+use book::Book;
+use book::layout::Table;
 
 // Stands for no key: greater than every key.
 pub const NO_KEY: u64 = 18446744073709551615;
 
 // A row's place in the order: by settlement date, then by number.
-fn order_of(book: &[u8], i: usize) -> u64
-    requires { (length book.now ≡ book_length) × (i < 256) }
+fn order_of(book: &Book, i: usize) -> u64
+    requires { i < 256 }
     ensures { result ≡ order_of (state book.now) i }
 {
-    book::get(book, SETTLEMENTS, i) * 4294967296 + book::get(book, NUMBERS, i)
+    book::get(book, Table::Settlements, i) * 4294967296 + book::get(book, Table::Numbers, i)
 }
 
 // Is the row the later request of a live pair that is due?
-fn is_due_pair(book: &[u8], i: usize) -> bool
-    requires { (length book.now ≡ book_length) × Good (state book.now) × (i < 256) }
+fn is_due_pair(book: &Book, i: usize) -> bool
+    requires { Good (state book.now) × (i < 256) }
     ensures { result ≡ is_due (state book.now) i }
 {
-    let number = book::get(book, NUMBERS, i);
+    let number = book::get(book, Table::Numbers, i);
     if number == 0 {
         return false;
     }
-    let partner = book::get(book, PARTNERS, i);
+    let partner = book::get(book, Table::Partners, i);
     if partner == 0 {
         return false;
     }
-    if book::get(book, ENDS, i) != 0 {
+    if book::get(book, Table::Ends, i) != 0 {
         return false;
     }
-    if book::get(book, AMOUNTS, i) <= book::get(book, SETTLED_AMOUNTS, i) {
+    if book::get(book, Table::Amounts, i) <= book::get(book, Table::SettledAmounts, i) {
         return false;
     }
-    if number <= book::get(book, NUMBERS, (partner - 1) as usize) {
+    if number <= book::get(book, Table::Numbers, (partner - 1) as usize) {
         return false;
     }
-    book::get(book, SETTLEMENTS, i) <= book::get(book, TODAY, 0)
+    book::get(book, Table::Settlements, i) <= book::get(book, Table::Today, 0)
 }
 
 // Is the row the later request of a live pair of a kind that is due? What few rows pass is asked first.
-fn is_due(book: &[u8], kind: u64, i: usize) -> bool
-    requires { (length book.now ≡ book_length) × Good (state book.now) × (i < 256) }
+fn is_due(book: &Book, kind: u64, i: usize) -> bool
+    requires { Good (state book.now) × (i < 256) }
     ensures { result ≡ due_of (state book.now) kind i }
 {
-    if book::get(book, REQUEST_KINDS, i) != kind {
+    if book::get(book, Table::RequestKinds, i) != kind {
         return false;
     }
     is_due_pair(book, i)
 }
 
 // Puts the key of a row that is due behind the n found so far. How many there are then.
-fn note_due(book: &[u8], kind: u64, i: usize, keys: &mut [u64; 256], n: usize) -> usize
-    requires { (length book.now ≡ book_length) × Good (state book.now) × (i < 256) × Collected (state book.now) kind i keys.old n }
+fn note_due(book: &Book, kind: u64, i: usize, keys: &mut [u64; 256], n: usize) -> usize
+    requires { Good (state book.now) × (i < 256) × Collected (state book.now) kind i keys.old n }
     ensures { Collected (state book.now) kind (i + 1) keys.new result }
 {
     if !is_due(book, kind, i) {
@@ -72,15 +71,13 @@ fn note_due(book: &[u8], kind: u64, i: usize, keys: &mut [u64; 256], n: usize) -
 }
 
 // Puts the keys of the rows of a kind that are due at the front, in the order of the rows. How many there are.
-pub fn collect(book: &[u8], kind: u64, keys: &mut [u64; 256]) -> usize
-    requires { (length book.now ≡ book_length) × Good (state book.now) × (length keys.old ≡ 256) }
+pub fn collect(book: &Book, kind: u64, keys: &mut [u64; 256]) -> usize
+    requires { Good (state book.now) × (length keys.old ≡ 256) }
     ensures { Collected (state book.now) kind 256 keys.new result }
 {
     let mut n: usize = 0;
-    let mut i: usize = 0;
-    while i < 256 {
+    for i in 0..256 {
         n = note_due(book, kind, i, keys, n);
-        i += 1;
     }
     n
 }
@@ -101,10 +98,8 @@ pub fn next_key(keys: &[u64; 256], n: usize, bound: u64) -> u64
     ensures { result ≡ least_from bound no_key (take n keys.now) }
 {
     let mut least = NO_KEY;
-    let mut j: usize = 0;
-    while j < n {
+    for j in 0..n {
         least = lesser_from(bound, least, keys[j]);
-        j += 1;
     }
     least
 }

@@ -9,17 +9,18 @@ ghost use Rattle.rules.specs.Stock.{basket_of};
 ghost use Rattle.eligibility.specs.Fresh.{Aged, FreshBaskets};
 
 use baskets::{Basket, Eligibility};
-use book::layout::{EXPOSURE_BASKETS, GREATEST_AGES, MAPS, TODAY};
+use book::Book;
+use book::layout::Table;
 
 // The map and greatest age of an exposure's basket.
-pub fn basket_of(book: &[u8], e: usize) -> Basket
-    requires { (length book.now ≡ book_length) × (e < 64) × (state book.now exposure_baskets e < 16) }
+pub fn basket_of(book: &Book, e: usize) -> Basket
+    requires { (e < 64) × (state book.now exposure_baskets e < 16) }
     ensures { result ≡ basket_of (state book.now) e }
 {
-    let b = book::get(book, EXPOSURE_BASKETS, e) as usize;
+    let b = book::get(book, Table::ExposureBaskets, e) as usize;
     Basket {
-        map: book::get(book, MAPS, b),
-        oldest: book::get(book, GREATEST_AGES, b),
+        map: book::get(book, Table::Maps, b),
+        oldest: book::get(book, Table::GreatestAges, b),
     }
 }
 
@@ -31,43 +32,39 @@ fn larger(a: u64, b: u64) -> u64
 }
 
 // The greatest age that a basket takes a price of.
-fn greatest_age(book: &[u8]) -> u64
-    requires { (length book.now ≡ book_length) × Aged 255 16 (state book.now) }
+fn greatest_age(book: &Book) -> u64
+    requires { Aged 255 16 (state book.now) }
     ensures { Aged result 16 (state book.now) × (result ≤ 255) }
 {
     let mut most: u64 = 0;
-    let mut b: usize = 0;
-    while b < 16 {
-        most = larger(most, book::get(book, GREATEST_AGES, b));
-        b += 1;
+    for b in 0..16 {
+        most = larger(most, book::get(book, Table::GreatestAges, b));
     }
     most
 }
 
 // The first day of a fresh price for each basket, found once for all Picks of a call.
-pub fn fresh_since(book: &[u8], columns: &[u64; 256]) -> [u64; 16]
-    requires { (length book.now ≡ book_length) × Aged 255 16 (state book.now) × (columns.now ≡ columns_of (state book.now)) }
+pub fn fresh_since(book: &Book, columns: &[u64; 256]) -> [u64; 16]
+    requires { Aged 255 16 (state book.now) × (columns.now ≡ columns_of (state book.now)) }
     ensures { FreshBaskets (state book.now) result }
 {
     let most = greatest_age(book) as usize;
-    let days = baskets::fresh_days(columns, book::get(book, TODAY, 0), most);
+    let days = baskets::fresh_days(columns, book::get(book, Table::Today, 0), most);
     let mut since = [0u64; 16];
-    let mut b: usize = 0;
-    while b < 16 {
-        let age = book::get(book, GREATEST_AGES, b) as usize;
+    for b in 0..16 {
+        let age = book::get(book, Table::GreatestAges, b) as usize;
         since[b] = days[age];
-        b += 1;
     }
     since
 }
 
 // Which securities are eligible for an exposure, by the first fresh days.
-pub fn eligibility_of(book: &[u8], since: &[u64; 16], e: usize) -> Eligibility
-    requires { (length book.now ≡ book_length) × (e < 64) × (state book.now exposure_baskets e < 16) × FreshBaskets (state book.now) since.now }
+pub fn eligibility_of(book: &Book, since: &[u64; 16], e: usize) -> Eligibility
+    requires { (e < 64) × (state book.now exposure_baskets e < 16) × FreshBaskets (state book.now) since.now }
     ensures { EligibilityFor (basket_of (state book.now) e) (state book.now today 0) (columns_of (state book.now)) result }
 {
-    let b = book::get(book, EXPOSURE_BASKETS, e) as usize;
-    let map = book::get(book, MAPS, b);
+    let b = book::get(book, Table::ExposureBaskets, e) as usize;
+    let map = book::get(book, Table::Maps, b);
     let day = since[b];
     Eligibility { map, since: day }
 }

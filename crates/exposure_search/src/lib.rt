@@ -8,31 +8,31 @@ ghost use Rattle.rules.specs.Requests.{has_key, exposure_with};
 ghost use Rattle.exposure_search.specs.Keys.{key_slot};
 ghost use Rattle.exposure_search.specs.Slots.{slot_of, with_hint, with_hints};
 
-use book::layout::{EXPOSURE_BASKETS, EXPOSURE_CLOSINGS, EXPOSURE_GIVERS, EXPOSURE_TAKERS, IN_USE};
+use book::Book;
+use book::layout::Table;
 
 // Is the exposure e used, with this key?
-pub fn has_key(book: &[u8], giver: u64, taker: u64, basket: u64, closing: u64, e: usize) -> bool
-    requires { (length book.now ≡ book_length) × (e < 64) }
+pub fn has_key(book: &Book, giver: u64, taker: u64, basket: u64, closing: u64, e: usize) -> bool
+    requires { e < 64 }
     ensures { result ≡ has_key (state book.now) giver taker basket closing e }
 {
-    if book::get(book, IN_USE, e) != 1 {
+    if book::get(book, Table::InUse, e) != 1 {
         return false;
     }
-    if book::get(book, EXPOSURE_GIVERS, e) != giver {
+    if book::get(book, Table::ExposureGivers, e) != giver {
         return false;
     }
-    if book::get(book, EXPOSURE_TAKERS, e) != taker {
+    if book::get(book, Table::ExposureTakers, e) != taker {
         return false;
     }
-    if book::get(book, EXPOSURE_BASKETS, e) != basket {
+    if book::get(book, Table::ExposureBaskets, e) != basket {
         return false;
     }
-    book::get(book, EXPOSURE_CLOSINGS, e) == closing
+    book::get(book, Table::ExposureClosings, e) == closing
 }
 
 // The row of the used exposure with this key, 64 where there is none.
-pub fn exposure_with(book: &[u8], giver: u64, taker: u64, basket: u64, closing: u64) -> usize
-    requires { length book.now ≡ book_length }
+pub fn exposure_with(book: &Book, giver: u64, taker: u64, basket: u64, closing: u64) -> usize
     ensures { result ≡ exposure_with (state book.now) giver taker basket closing }
 {
     let mut e: usize = 0;
@@ -55,38 +55,35 @@ pub fn key_slot(giver: u64, taker: u64, basket: u64, closing: u64) -> usize
 }
 
 // The hash slot of the key of the exposure e.
-pub fn slot_of(book: &[u8], e: usize) -> usize
-    requires { (length book.now ≡ book_length) × (e < 64) }
+pub fn slot_of(book: &Book, e: usize) -> usize
+    requires { e < 64 }
     ensures { (result ≡ slot_of (state book.now) e) × (result < 1024) }
 {
     key_slot(
-        book::get(book, EXPOSURE_GIVERS, e),
-        book::get(book, EXPOSURE_TAKERS, e),
-        book::get(book, EXPOSURE_BASKETS, e),
-        book::get(book, EXPOSURE_CLOSINGS, e),
+        book::get(book, Table::ExposureGivers, e),
+        book::get(book, Table::ExposureTakers, e),
+        book::get(book, Table::ExposureBaskets, e),
+        book::get(book, Table::ExposureClosings, e),
     )
 }
 
 // Puts a used exposure into its key's slot among the hints.
-fn put_hint(hints: &mut [u8; 1024], book: &[u8], e: usize)
-    requires { (length book.now ≡ book_length) × (e < 64) }
+fn put_hint(hints: &mut [u8; 1024], book: &Book, e: usize)
+    requires { e < 64 }
     ensures { hints.new ≡ with_hint (state book.now) e hints.old }
 {
-    if book::get(book, IN_USE, e) == 1 {
+    if book::get(book, Table::InUse, e) == 1 {
         let slot = slot_of(book, e);
         hints[slot] = e as u8;
     }
 }
 
 // Puts all used exposures into their slots. A hint is only where to look first: what is found does not depend on it.
-pub fn put_hints(hints: &mut [u8; 1024], book: &[u8])
-    requires { length book.now ≡ book_length }
+pub fn put_hints(hints: &mut [u8; 1024], book: &Book)
     ensures { hints.new ≡ with_hints (state book.now) hints.old 64 }
 {
-    let mut e: usize = 0;
-    while e < 64 {
+    for e in 0..64 {
         put_hint(hints, book, e);
-        e += 1;
     }
 }
 
@@ -98,14 +95,13 @@ fn wide(x: u8) -> usize
 
 // Is there a used exposure with this key? The hint is tried before all of them are.
 pub fn has_exposure(
-    book: &[u8],
+    book: &Book,
     hints: &[u8; 1024],
     giver: u64,
     taker: u64,
     basket: u64,
     closing: u64,
 ) -> bool
-    requires { length book.now ≡ book_length }
     ensures { result ≡ ltb (exposure_with (state book.now) giver taker basket closing) 64 }
 {
     let slot = key_slot(giver, taker, basket, closing);

@@ -12,10 +12,8 @@ fn put_digits(lines: &mut [u8], at: usize, digits: [u8; 20], count: usize) -> us
     requires { (count ≤ length digits) × (at + 20 ≤ length lines.old) }
     ensures { (result ≡ at + count) × (result ≤ at + 20) × (lines.new ≡ with_text lines.old at (take count digits)) }
 {
-    let mut i: usize = 0;
-    while i < count {
+    for i in 0..count {
         lines[at + i] = digits[i];
-        i += 1;
     }
     at + count
 }

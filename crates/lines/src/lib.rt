@@ -127,10 +127,8 @@ pub fn move_to_front(bytes: &mut [u8], from: usize, end: usize) -> usize
     ensures { (from + result ≡ end) × (take result bytes.new ≡ drop from (take end bytes.old)) }
 {
     let count = end - from;
-    let mut i: usize = 0;
-    while i < count {
+    for i in 0..count {
         bytes[i] = bytes[from + i];
-        i += 1;
     }
     count
 }

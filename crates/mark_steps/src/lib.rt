@@ -15,7 +15,8 @@ ghost use Rattle.marking_laws.specs.Pass.{is_empty};
 ghost use Rattle.mark_steps.specs.Stepped.{Stepped, bit, ineligible_in, may_stay};
 
 use baskets::Eligibility;
-use book::layout::{EXPOSURE_AMOUNTS, IN_USE, POSITIONS};
+use book::Book;
+use book::layout::Table;
 
 // What a step leaves of an exposure: 1 where its position is another, and what its value is short of its amount.
 #[derive(Clone, Copy)]
@@ -25,8 +26,8 @@ pub struct Passed {
 }
 
 // Bonds of so many securities go back from an exposure's position into its giver's account; 1 where there are any.
-fn give_any_back(book: &mut [u8], e: usize, nominals: &[u64; 64], count: u64) -> u64
-    requires { (length book.old ≡ book_length) × GivingBack (state book.old) e nominals.now × (is_empty nominals.now ≡ eqb count 0) }
+fn give_any_back(book: &mut Book, e: usize, nominals: &[u64; 64], count: u64) -> u64
+    requires { GivingBack (state book.old) e nominals.now × (is_empty nominals.now ≡ eqb count 0) }
     ensures { (state book.new ≡ give_back (state book.old) e nominals.now) × (result ≡ bit (moved (state book.old) (state book.new) e)) }
 {
     if count == 0 {
@@ -58,71 +59,67 @@ fn ineligible(position: &[u64; 64], columns: &[u64; 256], x: Eligibility) -> [u6
     ensures { result ≡ filled (ineligible_in position.now columns.now x) 64 64 }
 {
     let mut nominals = [0u64; 64];
-    let mut i: usize = 0;
-    while i < 64 {
+    for i in 0..64 {
         nominals[i] = ineligible_nominal(position, columns, x, i);
-        i += 1;
     }
     nominals
 }
 
 // May what an exposure holds of security i stay? It is eligible, or nothing is held.
-fn may_stay(book: &[u8], columns: &[u64; 256], x: Eligibility, e: usize, i: usize) -> bool
-    requires { (length book.now ≡ book_length) × (e < 64) × (i < 64) × AllInBounds columns.now }
+fn may_stay(book: &Book, columns: &[u64; 256], x: Eligibility, e: usize, i: usize) -> bool
+    requires { (e < 64) × (i < 64) × AllInBounds columns.now }
     ensures { result ≡ may_stay (position_of (state book.now) e) columns.now x i }
 {
-    if book::get(book, POSITIONS, 64 * e + i) == 0 {
+    if book::get(book, Table::Positions, 64 * e + i) == 0 {
         return true;
     }
     baskets::is_eligible(x, columns, i)
 }
 
 // May all that an exposure holds stay? Reads the position in the book without a copy: on most days nothing goes back.
-fn may_all_stay(book: &[u8], columns: &[u64; 256], x: Eligibility, e: usize) -> bool
-    requires { (length book.now ≡ book_length) × (e < 64) × AllInBounds columns.now }
+fn may_all_stay(book: &Book, columns: &[u64; 256], x: Eligibility, e: usize) -> bool
+    requires { (e < 64) × AllInBounds columns.now }
     ensures { result ≡ all (may_stay (position_of (state book.now) e) columns.now x) 64 0 }
 {
-    let mut i: usize = 0;
-    while i < 64 {
+    for i in 0..64 {
         if !may_stay(book, columns, x, e, i) {
             return false;
         }
-        i += 1;
     }
     true
 }
 
 // First pass: gives back what is not eligible; 1 where there was anything.
-pub fn give_ineligible(book: &mut [u8], columns: &[u64; 256], since: &[u64; 16], e: usize) -> u64
+pub fn give_ineligible(book: &mut Book, columns: &[u64; 256], since: &[u64; 16], e: usize) -> u64
     requires { SoundBook book.old columns.now × (e < 64) × FreshBaskets (state book.old) since.now }
     ensures { Stepped ineligible_back columns.now book.old book.new e result }
 {
-    if book::get(book, IN_USE, e) != 1 {
+    if book::get(book, Table::InUse, e) != 1 {
         return 0;
     }
     let x = eligibility::eligibility_of(book, since, e);
     if may_all_stay(book, columns, x, e) {
         return 0;
     }
-    let position = book::row_at(book, POSITIONS, 64 * e);
+    let position = book::row_at(book, Table::Positions, 64 * e);
     let nominals = ineligible(&position, columns, x);
     bonds::give_back(book, e, &nominals);
     1
 }
 
 // Second pass: frees the position down to the exposure's amount. An exposure that is not used lacks nothing.
-pub fn free_excess(book: &mut [u8], columns: &[u64; 256], e: usize) -> Passed
+pub fn free_excess(book: &mut Book, columns: &[u64; 256], e: usize) -> Passed
     requires { SoundBook book.old columns.now × (e < 64) }
     ensures { Stepped excess_back columns.now book.old book.new e result.moved × (result.missing ≡ missing_of (state book.new) e) }
 {
-    if book::get(book, IN_USE, e) != 1 {
+    if book::get(book, Table::InUse, e) != 1 {
         return Passed {
             moved: 0,
             missing: 0,
         };
     }
-    let position = book::row_at(book, POSITIONS, 64 * e);
-    let amount = book::get(book, EXPOSURE_AMOUNTS, e);
+    let position = book::row_at(book, Table::Positions, 64 * e);
+    let amount = book::get(book, Table::ExposureAmounts, e);
     let freed = picking::free(&position, columns, amount);
     let nominals = freed.nominals;
     let moved = give_any_back(book, e, &nominals, freed.count);
@@ -134,7 +131,7 @@ pub fn free_excess(book: &mut [u8], columns: &[u64; 256], e: usize) -> Passed
 
 // Third pass: picks what is missing. A position is valued anew, each security at its whole nominal, where it took in.
 pub fn search_missing(
-    book: &mut [u8],
+    book: &mut Book,
     columns: &[u64; 256],
     since: &[u64; 16],
     e: usize,
@@ -152,9 +149,9 @@ pub fn search_missing(
     }
     let nominals = found.nominals;
     bonds::pledge(book, e, &nominals);
-    let position = book::row_at(book, POSITIONS, 64 * e);
+    let position = book::row_at(book, Table::Positions, 64 * e);
     let value = securities::worth_of(&position, columns);
-    let exposure = book::get(book, EXPOSURE_AMOUNTS, e);
+    let exposure = book::get(book, Table::ExposureAmounts, e);
     Passed {
         moved: 1,
         missing: bonds::missing_from(exposure, value),

@@ -13,6 +13,7 @@ ghost use Rattle.rules.specs.Sound.{sound};
 ghost use Rattle.totals.specs.Totals.{totals_of};
 ghost use Rattle.marking.specs.Flags.{Flags, flags_of, count_with, count_of};
 
+use book::Book;
 use totals::Totals;
 
 // What the second pass leaves: how many exposures gave back, in the first or in this one, and what is missing of each.
@@ -30,15 +31,13 @@ struct Searched {
 }
 
 // First pass: for each exposure, 1 where it gave back.
-fn give_all_ineligible(book: &mut [u8], columns: &[u64; 256], since: &[u64; 16]) -> [u64; 64]
+fn give_all_ineligible(book: &mut Book, columns: &[u64; 256], since: &[u64; 16]) -> [u64; 64]
     requires { SoundBook book.old columns.now × FreshBaskets (state book.old) since.now }
     ensures { SoundBook book.new columns.now × (state book.new ≡ on_exposures ineligible_back 64 (state book.old)) × (result ≡ flags_of (moved (state book.old) (state book.new))) }
 {
     let mut gave = [0u64; 64];
-    let mut e: usize = 0;
-    while e < 64 {
+    for e in 0..64 {
         gave[e] = mark_steps::give_ineligible(book, columns, since, e);
-        e += 1;
     }
     gave
 }
@@ -51,25 +50,23 @@ fn either(first: u64, second: u64) -> u64
 }
 
 // Second pass: each exposure is freed and no more; what is missing is searched for when all are freed.
-fn free_all(book: &mut [u8], columns: &[u64; 256], gave: &[u64; 64]) -> Freed
+fn free_all(book: &mut Book, columns: &[u64; 256], gave: &[u64; 64]) -> Freed
     requires { SoundBook book.old columns.now × Flags gave.now }
     ensures { SoundBook book.new columns.now × (state book.new ≡ on_exposures excess_back 64 (state book.old)) × (result.count ≡ count_with gave.now (moved (state book.old) (state book.new))) × (result.missing ≡ filled (missing_of (state book.new)) 64 64) }
 {
     let mut count: u64 = 0;
     let mut missing = [0u64; 64];
-    let mut e: usize = 0;
-    while e < 64 {
+    for e in 0..64 {
         let step = mark_steps::free_excess(book, columns, e);
         count += either(gave[e], step.moved);
         missing[e] = step.missing;
-        e += 1;
     }
     Freed { count, missing }
 }
 
 // Third pass.
 fn search_all(
-    book: &mut [u8],
+    book: &mut Book,
     columns: &[u64; 256],
     since: &[u64; 16],
     missing: &[u64; 64],
@@ -79,12 +76,10 @@ fn search_all(
 {
     let mut count: u64 = 0;
     let mut after: u64 = 0;
-    let mut e: usize = 0;
-    while e < 64 {
+    for e in 0..64 {
         let step = mark_steps::search_missing(book, columns, since, e, missing[e]);
         count += step.moved;
         after += step.missing;
-        e += 1;
     }
     Searched {
         count,
@@ -93,8 +88,8 @@ fn search_all(
 }
 
 // 10: the mark.
-pub fn mark(book: &mut [u8]) -> Totals
-    requires { (length book.old ≡ book_length) × (sound (state book.old) ≡ true) }
+pub fn mark(book: &mut Book) -> Totals
+    requires { sound (state book.old) ≡ true }
     ensures { (result ≡ totals_of (marked (state book.old))) × (state book.new ≡ (marked (state book.old)).state) }
 {
     let columns = book::columns(book);

@@ -11,40 +11,38 @@ ghost use Rattle.rules.specs.Settlement.{both_settled, return_amount};
 ghost use Rattle.settlement_laws.specs.Ways.{PairOf, fop_amount, return_way, fop_way, left};
 ghost use Rattle.pair_settlement.specs.Pairs.{Settleable, amount_for};
 
-use book::layout::{
-    AMOUNTS, BASKETS_OR_EXPOSURES, CLOSINGS, EXPOSURE_AMOUNTS, GIVERS, PAIR_PARTIALS, PARTNERS,
-    SETTLED_AMOUNTS, TAKERS, TOLERANCE,
-};
+use book::Book;
+use book::layout::Table;
 use limits::GREATEST_EXPOSURE;
 
 // What is left to settle.
-fn rest_of(book: &[u8], i: usize) -> u64
-    requires { (length book.now ≡ book_length) × (i < 256) × (state book.now settled_amounts i ≤ state book.now amounts i) }
+fn rest_of(book: &Book, i: usize) -> u64
+    requires { (i < 256) × (state book.now settled_amounts i ≤ state book.now amounts i) }
     ensures { result ≡ rest_of (state book.now) i }
 {
-    book::get(book, AMOUNTS, i) - book::get(book, SETTLED_AMOUNTS, i)
+    book::get(book, Table::Amounts, i) - book::get(book, Table::SettledAmounts, i)
 }
 
 // Both rows of a pair have settled so much more, and the exposure has a new amount.
-fn note_settled(book: &mut [u8], i: usize, x: u64, e: usize, exposure: u64)
-    requires { (length book.old ≡ book_length) × Settleable (state book.old) i x × (e < 64) }
+fn note_settled(book: &mut Book, i: usize, x: u64, e: usize, exposure: u64)
+    requires { Settleable (state book.old) i x × (e < 64) }
     ensures { state book.new ≡ put (both_settled (state book.old) i x) exposure_amounts e exposure }
 {
-    let j = (book::get(book, PARTNERS, i) - 1) as usize;
-    let own = book::get(book, SETTLED_AMOUNTS, i);
-    let other = book::get(book, SETTLED_AMOUNTS, j);
-    book::set(book, SETTLED_AMOUNTS, i, own + x);
-    book::set(book, SETTLED_AMOUNTS, j, other + x);
-    book::set(book, EXPOSURE_AMOUNTS, e, exposure);
+    let j = (book::get(book, Table::Partners, i) - 1) as usize;
+    let own = book::get(book, Table::SettledAmounts, i);
+    let other = book::get(book, Table::SettledAmounts, j);
+    book::set(book, Table::SettledAmounts, i, own + x);
+    book::set(book, Table::SettledAmounts, j, other + x);
+    book::set(book, Table::ExposureAmounts, e, exposure);
 }
 
 // Settles a return: the lesser of its rest and the exposure, which is lowered and freed. The cents settled.
-pub fn settle_return(book: &mut [u8], columns: &[u64; 256], i: usize) -> u64
-    requires { (length book.old ≡ book_length) × Good (state book.old) × PairOf (state book.old) 7 i × (columns.now ≡ columns_of (state book.old)) }
+pub fn settle_return(book: &mut Book, columns: &[u64; 256], i: usize) -> u64
+    requires { Good (state book.old) × PairOf (state book.old) 7 i × (columns.now ≡ columns_of (state book.old)) }
     ensures { (result ≡ return_amount (state book.old) i) × (state book.new ≡ left return_way (state book.old) i) }
 {
-    let e = book::get(book, BASKETS_OR_EXPOSURES, i) as usize;
-    let exposure = book::get(book, EXPOSURE_AMOUNTS, e);
+    let e = book::get(book, Table::BasketsOrExposures, i) as usize;
+    let exposure = book::get(book, Table::ExposureAmounts, e);
     let x = parcels::smaller(rest_of(book, i), exposure);
     if x == 0 {
         return 0;
@@ -55,29 +53,29 @@ pub fn settle_return(book: &mut [u8], columns: &[u64; 256], i: usize) -> u64
 }
 
 // The exposure that a FOP pair belongs to.
-fn exposure_of_fop(book: &[u8], i: usize) -> usize
-    requires { (length book.now ≡ book_length) × (i < 256) }
+fn exposure_of_fop(book: &Book, i: usize) -> usize
+    requires { i < 256 }
     ensures { result ≡ exposure_of_fop (state book.now) i }
 {
     exposure_search::exposure_with(
         book,
-        book::get(book, GIVERS, i),
-        book::get(book, TAKERS, i),
-        book::get(book, BASKETS_OR_EXPOSURES, i),
-        book::get(book, CLOSINGS, i),
+        book::get(book, Table::Givers, i),
+        book::get(book, Table::Takers, i),
+        book::get(book, Table::BasketsOrExposures, i),
+        book::get(book, Table::Closings, i),
     )
 }
 
 // What a FOP settles of its rest, for the value found: all of it where less than the tolerance is missing, else what was found,
 // where both parties allowed partial settlement.
-fn amount_for(book: &[u8], i: usize, rest: u64, found: u64) -> u64
-    requires { (length book.now ≡ book_length) × (i < 256) × (found ≤ rest) }
+fn amount_for(book: &Book, i: usize, rest: u64, found: u64) -> u64
+    requires { (i < 256) × (found ≤ rest) }
     ensures { result ≡ amount_for (state book.now) i rest found }
 {
-    if rest - found < book::get(book, TOLERANCE, 0) {
+    if rest - found < book::get(book, Table::Tolerance, 0) {
         return rest;
     }
-    if book::get(book, PAIR_PARTIALS, i) == 1 {
+    if book::get(book, Table::PairPartials, i) == 1 {
         found
     } else {
         0
@@ -85,12 +83,12 @@ fn amount_for(book: &[u8], i: usize, rest: u64, found: u64) -> u64
 }
 
 // Settles a FOP: Picks its rest, and the exposure grows by what settles. The cents settled.
-pub fn settle_fop(book: &mut [u8], columns: &[u64; 256], since: &[u64; 16], i: usize) -> u64
-    requires { (length book.old ≡ book_length) × Good (state book.old) × PairOf (state book.old) 6 i × (columns.now ≡ columns_of (state book.old)) × FreshBaskets (state book.old) since.now }
+pub fn settle_fop(book: &mut Book, columns: &[u64; 256], since: &[u64; 16], i: usize) -> u64
+    requires { Good (state book.old) × PairOf (state book.old) 6 i × (columns.now ≡ columns_of (state book.old)) × FreshBaskets (state book.old) since.now }
     ensures { (result ≡ fop_amount (state book.old) i) × (state book.new ≡ left fop_way (state book.old) i) }
 {
     let e = exposure_of_fop(book, i);
-    let exposure = book::get(book, EXPOSURE_AMOUNTS, e);
+    let exposure = book::get(book, Table::ExposureAmounts, e);
     let rest = rest_of(book, i);
     if GREATEST_EXPOSURE < exposure + rest {
         return 0;

@@ -84,13 +84,11 @@ pub fn pick(
     let mut nominals = [0u64; 64];
     let mut value: u64 = 0;
     let mut count: u64 = 0;
-    let mut i: usize = 0;
-    while i < 64 {
+    for i in 0..64 {
         let p = parcel_from(account, columns, x, omitted, i, amount - value);
         nominals[i] = p.nominal;
         value += p.value;
         count += parcels::smaller(p.nominal, 1);
-        i += 1;
     }
     Outcome {
         nominals,

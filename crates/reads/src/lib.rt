@@ -12,20 +12,16 @@ ghost use Rattle.rules.specs.Sound.{sound};
 ghost use Rattle.rules.specs.Stock.{participant_set_up};
 ghost use Rattle.reads.specs.Entries.{nominal_answer, request_number};
 
-use book::layout::{
-    ACCOUNTS, EXPOSURE_AMOUNTS, EXPOSURE_BASKETS, EXPOSURE_CLOSINGS, EXPOSURE_GIVERS,
-    EXPOSURE_TAKERS, GREATEST_AGES, IN_USE, LOTS, MAPS, MODES, NUMBERS, PARTNERS, POSITIONS,
-};
+use book::layout::Table;
 
 // 4 and 5 of a participant.
 fn participant_rules(book: &[u8], p: u64) -> u64
-    requires { length book.now ≡ book_length }
     ensures { result ≡ lowest (row_rules modes p (participant_set_up (state book.now) p)) }
 {
     if 32 <= p {
         return 4;
     }
-    if book::get(book, MODES, p as usize) == 0 {
+    if book::get(book, Table::Modes, p as usize) == 0 {
         return 5;
     }
     0
@@ -33,13 +29,12 @@ fn participant_rules(book: &[u8], p: u64) -> u64
 
 // 4 and 5 of an exposure.
 fn exposure_rules(book: &[u8], e: u64) -> u64
-    requires { length book.now ≡ book_length }
     ensures { result ≡ lowest (read_rules (state book.now) (exposure e)) }
 {
     if 64 <= e {
         return 4;
     }
-    if book::get(book, IN_USE, e as usize) != 1 {
+    if book::get(book, Table::InUse, e as usize) != 1 {
         return 5;
     }
     0
@@ -47,13 +42,12 @@ fn exposure_rules(book: &[u8], e: u64) -> u64
 
 // 4 and 5 of a basket.
 fn basket_rules(book: &[u8], b: u64) -> u64
-    requires { length book.now ≡ book_length }
     ensures { result ≡ lowest (read_rules (state book.now) (basket b)) }
 {
     if 16 <= b {
         return 4;
     }
-    if book::get(book, MAPS, b as usize) == 0 {
+    if book::get(book, Table::Maps, b as usize) == 0 {
         return 5;
     }
     0
@@ -61,7 +55,7 @@ fn basket_rules(book: &[u8], b: u64) -> u64
 
 // The nominal of one security in the row x of a table, an account or a position, by the code of that row: {code, nominal}.
 fn nominal_answer(book: &[u8], code: u64, f: usize, x: u64, security: u64) -> [u64; 2]
-    requires { (length book.now ≡ book_length) × (f < table_count) × (code ≡ 0 → (x < 64) × (64 * x + 64 ≤ rows_of f)) }
+    requires { code ≡ 0 → (x < 64) × (64 * x + 64 ≤ rows_of f) }
     ensures { result ≡ nominal_answer (state book.now) code f x security }
 {
     if code == 4 {
@@ -73,7 +67,7 @@ fn nominal_answer(book: &[u8], code: u64, f: usize, x: u64, security: u64) -> [u
     if code != 0 {
         return [5, 0];
     }
-    if book::get(book, LOTS, security as usize) == 0 {
+    if book::get(book, Table::Lots, security as usize) == 0 {
         return [5, 0];
     }
     let at = 64 * x as usize + security as usize;
@@ -82,7 +76,6 @@ fn nominal_answer(book: &[u8], code: u64, f: usize, x: u64, security: u64) -> [u
 
 // The row of a request by its number, 256 where there is none. No request has the number 0.
 fn row_of(book: &[u8], number: u64) -> usize
-    requires { length book.now ≡ book_length }
     ensures { result ≡ row_of (state book.now) number }
 {
     if number == 0 {
@@ -90,7 +83,7 @@ fn row_of(book: &[u8], number: u64) -> usize
     }
     let mut i: usize = 0;
     while i < 256 {
-        if book::get(book, NUMBERS, i) == number {
+        if book::get(book, Table::Numbers, i) == number {
             return i;
         }
         i += 1;
@@ -100,26 +93,26 @@ fn row_of(book: &[u8], number: u64) -> usize
 
 // The number of a request's partner, 0 where it is unpaired.
 fn partner_number(book: &[u8], i: usize) -> u64
-    requires { (length book.now ≡ book_length) × (sound (state book.now) ≡ true) × (i < 256) }
+    requires { (sound (state book.now) ≡ true) × (i < 256) }
     ensures { result ≡ partner_number (state book.now) i }
 {
-    let partner = book::get(book, PARTNERS, i);
+    let partner = book::get(book, Table::Partners, i);
     if partner == 0 {
         return 0;
     }
-    book::get(book, NUMBERS, partner as usize - 1)
+    book::get(book, Table::Numbers, partner as usize - 1)
 }
 
 // One number of the answer of an accepted read of a request.
 fn request_number(book: &[u8], i: usize, k: usize) -> u64
-    requires { (length book.now ≡ book_length) × (sound (state book.now) ≡ true) × (i < 256) × (k < 15) }
+    requires { (sound (state book.now) ≡ true) × (i < 256) × (k < 15) }
     ensures { result ≡ request_number (state book.now) i k }
 {
     if k == 0 {
         return 0;
     }
-    let f = NUMBERS + k;
-    if f == PARTNERS {
+    let f = Table::Numbers + k;
+    if f == Table::Partners {
         return partner_number(book, i);
     }
     book::get(book, f, i)
@@ -127,14 +120,12 @@ fn request_number(book: &[u8], i: usize, k: usize) -> u64
 
 // The answer of an accepted read of a request.
 fn request_answer(book: &[u8], i: usize) -> [u64; 15]
-    requires { (length book.now ≡ book_length) × (sound (state book.now) ≡ true) × (i < 256) }
+    requires { (sound (state book.now) ≡ true) × (i < 256) }
     ensures { result ≡ filled (request_number (state book.now) i) 15 15 }
 {
     let mut numbers = [0u64; 15];
-    let mut k: usize = 0;
-    while k < 15 {
+    for k in 0..15 {
         numbers[k] = request_number(book, i, k);
-        k += 1;
     }
     numbers
 }
@@ -149,7 +140,7 @@ pub fn reads_account(book: &[u8], participant: u64, security: u64, answer: &mut 
         return;
     }
     let code = participant_rules(book, participant);
-    *answer = nominal_answer(book, code, ACCOUNTS, participant, security);
+    *answer = nominal_answer(book, code, Table::Accounts, participant, security);
 }
 
 // The nominal of one security in an exposure's position: {code, nominal}.
@@ -162,7 +153,7 @@ pub fn reads_position(book: &[u8], exposure: u64, security: u64, answer: &mut [u
         return;
     }
     let code = exposure_rules(book, exposure);
-    *answer = nominal_answer(book, code, POSITIONS, exposure, security);
+    *answer = nominal_answer(book, code, Table::Positions, exposure, security);
 }
 
 // An exposure: {code, giver, taker, basket, closing, amount}.
@@ -180,11 +171,11 @@ pub fn reads_exposure(book: &[u8], e: u64, answer: &mut [u64; 6])
         return;
     }
     let i = e as usize;
-    let giver = book::get(book, EXPOSURE_GIVERS, i);
-    let taker = book::get(book, EXPOSURE_TAKERS, i);
-    let basket = book::get(book, EXPOSURE_BASKETS, i);
-    let closing = book::get(book, EXPOSURE_CLOSINGS, i);
-    let amount = book::get(book, EXPOSURE_AMOUNTS, i);
+    let giver = book::get(book, Table::ExposureGivers, i);
+    let taker = book::get(book, Table::ExposureTakers, i);
+    let basket = book::get(book, Table::ExposureBaskets, i);
+    let closing = book::get(book, Table::ExposureClosings, i);
+    let amount = book::get(book, Table::ExposureAmounts, i);
     *answer = [0, giver, taker, basket, closing, amount];
 }
 
@@ -202,8 +193,8 @@ pub fn reads_basket(book: &[u8], b: u64, answer: &mut [u64; 5])
         *answer = [code, 0, 0, 0, 0];
         return;
     }
-    let map = book::get(book, MAPS, b as usize);
-    let age = book::get(book, GREATEST_AGES, b as usize);
+    let map = book::get(book, Table::Maps, b as usize);
+    let age = book::get(book, Table::GreatestAges, b as usize);
     let report = baskets::baskets_report(map);
     *answer = [0, map, age, report.count, report.lowest];
 }

@@ -11,14 +11,15 @@ ghost use Rattle.rules.specs.Outcome.{lowest};
 ghost use Rattle.rules.specs.Sound.{sound};
 ghost use Rattle.totals.specs.Totals.{totals_of};
 
+use book::Book;
 use record_kinds::Fields;
 use totals::Totals;
 
 mod codes;
 
 // 11: the code of a recall, found on copies of one account and one position.
-pub fn recall_code(book: &[u8], fields: &Fields) -> u64
-    requires { (length book.now ≡ book_length) × (are_legal 11 fields.now ≡ true) × (sound (state book.now) ≡ true) }
+pub fn recall_code(book: &Book, fields: &Fields) -> u64
+    requires { (are_legal 11 fields.now ≡ true) × (sound (state book.now) ≡ true) }
     ensures { result ≡ lowest (recall_rules (state book.now) fields.now) }
 {
     let names = codes::names_code(book, fields);
@@ -37,8 +38,8 @@ pub fn recall_code(book: &[u8], fields: &Fields) -> u64
 }
 
 // 11: the recall of an accepted record: the nominal goes back, the substitutes come in.
-pub fn recall(book: &mut [u8], fields: &Fields) -> Totals
-    requires { (length book.old ≡ book_length) × (are_legal 11 fields.now ≡ true) × (sound (state book.old) ≡ true) × (lowest (recall_rules (state book.old) fields.now) ≡ 0) }
+pub fn recall(book: &mut Book, fields: &Fields) -> Totals
+    requires { (are_legal 11 fields.now ≡ true) × (sound (state book.old) ≡ true) × (lowest (recall_rules (state book.old) fields.now) ≡ 0) }
     ensures { (result ≡ totals_of (recall (state book.old) fields.now)) × (state book.new ≡ (recall (state book.old) fields.now).state) }
 {
     let columns = book::columns(book);

@@ -40,12 +40,10 @@ fn are_in_ranges(k: usize, fields: &Fields) -> bool
     requires { k < kind_count }
     ensures { result ≡ are_legal k fields.now }
 {
-    let mut j: usize = 0;
-    while j < PLACES {
+    for j in 0..PLACES {
         if !is_in_range(k, j, fields[j]) {
             return false;
         }
-        j += 1;
     }
     true
 }
@@ -101,12 +99,10 @@ fn fields_of(bytes: &[u8], k: usize) -> Fields
 {
     let mut fields = [0u64; PLACES];
     let mut at: usize = 1;
-    let mut j: usize = 0;
-    while j < PLACES {
+    for j in 0..PLACES {
         let w = record_kinds::field_of(k, j).bytes;
         fields[j] = number_at(bytes, at, w);
         at += w;
-        j += 1;
     }
     fields
 }
@@ -200,12 +196,10 @@ fn put_fields(part: &mut [u8], k: usize, fields: &Fields)
 {
     part[0] = (k % 256) as u8;
     let mut at: usize = 1;
-    let mut j: usize = 0;
-    while j < PLACES {
+    for j in 0..PLACES {
         let w = record_kinds::field_of(k, j).bytes;
         put_number(part, at, w, fields[j]);
         at += w;
-        j += 1;
     }
 }
 

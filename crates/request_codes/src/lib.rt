@@ -11,30 +11,31 @@ ghost use Rattle.rules.specs.Fields.{giver_in, taker_in, basket_or_exposure_in};
 ghost use Rattle.request_search.specs.Ranges.{RequestIn};
 ghost use Rattle.request_codes.specs.Rules.{party_rules, basket_name_rules, settlement_rules, closing_rules, taker_rules, row_rules, exposure_rules, fop_name_rules};
 
-use book::layout::{EXPOSURE_GIVERS, EXPOSURE_TAKERS, IN_USE, MAPS, MODES, NEXT_NUMBER, TODAY};
+use book::Book;
+use book::layout::Table;
 use limits::GREATEST_NEXT;
 use record_kinds::Fields;
 
 // 5 where the giver or the taker is not set up, else 0.
-pub fn party_code(book: &[u8], fields: &Fields) -> u64
-    requires { (length book.now ≡ book_length) × RequestIn fields.now }
+pub fn party_code(book: &Book, fields: &Fields) -> u64
+    requires { RequestIn fields.now }
     ensures { result ≡ lowest (party_rules (state book.now) fields.now) }
 {
-    if book::get(book, MODES, fields[1] as usize) == 0 {
+    if book::get(book, Table::Modes, fields[1] as usize) == 0 {
         return 5;
     }
-    if book::get(book, MODES, fields[2] as usize) == 0 {
+    if book::get(book, Table::Modes, fields[2] as usize) == 0 {
         return 5;
     }
     0
 }
 
 // 5 where a FOP's basket is not set up, else 0.
-fn basket_code(book: &[u8], fields: &Fields) -> u64
-    requires { (length book.now ≡ book_length) × (basket_or_exposure_in fields.now < 16) }
+fn basket_code(book: &Book, fields: &Fields) -> u64
+    requires { basket_or_exposure_in fields.now < 16 }
     ensures { result ≡ lowest (basket_name_rules (state book.now) fields.now) }
 {
-    if book::get(book, MAPS, fields[3] as usize) == 0 {
+    if book::get(book, Table::Maps, fields[3] as usize) == 0 {
         5
     } else {
         0
@@ -42,14 +43,13 @@ fn basket_code(book: &[u8], fields: &Fields) -> u64
 }
 
 // 7 where the settlement day is not open or lies before today, else 0.
-pub fn settlement_code(book: &[u8], fields: &Fields) -> u64
-    requires { length book.now ≡ book_length }
+pub fn settlement_code(book: &Book, fields: &Fields) -> u64
     ensures { result ≡ lowest (settlement_rules (state book.now) fields.now) }
 {
     if !calendar::is_open(fields[5]) {
         return 7;
     }
-    if fields[5] < book::get(book, TODAY, 0) {
+    if fields[5] < book::get(book, Table::Today, 0) {
         return 7;
     }
     0
@@ -72,8 +72,8 @@ fn closing_code(fields: &Fields) -> u64
 }
 
 // 8 where the giver is the taker; 9 for a taker's request where it accepts that giver automatically; else 0.
-pub fn taker_code(book: &[u8], fields: &Fields) -> u64
-    requires { (length book.now ≡ book_length) × RequestIn fields.now }
+pub fn taker_code(book: &Book, fields: &Fields) -> u64
+    requires { RequestIn fields.now }
     ensures { result ≡ lowest (taker_rules (state book.now) fields.now) }
 {
     if fields[1] == fields[2] {
@@ -89,8 +89,8 @@ pub fn taker_code(book: &[u8], fields: &Fields) -> u64
 }
 
 // How many request rows the record needs.
-fn rows_needed(book: &[u8], fields: &Fields) -> u64
-    requires { (length book.now ≡ book_length) × RequestIn fields.now }
+fn rows_needed(book: &Book, fields: &Fields) -> u64
+    requires { RequestIn fields.now }
     ensures { (result ≡ rows_needed (state book.now) fields.now) × (result ≤ 2) }
 {
     if request_search::does_taker_follow(book, fields) {
@@ -101,23 +101,23 @@ fn rows_needed(book: &[u8], fields: &Fields) -> u64
 }
 
 // 14 where there are too few request rows, or numbers would go above 999,999,999; else 0.
-pub fn row_code(book: &[u8], fields: &Fields) -> u64
-    requires { (length book.now ≡ book_length) × RequestIn fields.now }
+pub fn row_code(book: &Book, fields: &Fields) -> u64
+    requires { RequestIn fields.now }
     ensures { result ≡ lowest (row_rules (state book.now) fields.now) }
 {
     let needed = rows_needed(book, fields);
     if request_search::free_rows(book) < needed {
         return 14;
     }
-    if GREATEST_NEXT - needed < book::get(book, NEXT_NUMBER, 0) {
+    if GREATEST_NEXT - needed < book::get(book, Table::NextNumber, 0) {
         return 14;
     }
     0
 }
 
 // Is a request paired at once?
-fn does_pair_now(book: &[u8], kind: u64, fields: &Fields) -> bool
-    requires { (length book.now ≡ book_length) × RequestIn fields.now }
+fn does_pair_now(book: &Book, kind: u64, fields: &Fields) -> bool
+    requires { RequestIn fields.now }
     ensures { result ≡ pairs_now (state book.now) kind fields.now }
 {
     if request_search::does_taker_follow(book, fields) {
@@ -127,8 +127,8 @@ fn does_pair_now(book: &[u8], kind: u64, fields: &Fields) -> bool
 }
 
 // 15 where a FOP pairs, no exposure has its key and no exposure row is free; else 0. A free row, most often the case, is looked for first.
-pub fn exposure_code(book: &[u8], fields: &Fields) -> u64
-    requires { (length book.now ≡ book_length) × RequestIn fields.now }
+pub fn exposure_code(book: &Book, fields: &Fields) -> u64
+    requires { RequestIn fields.now }
     ensures { result ≡ lowest (exposure_rules (state book.now) fields.now) }
 {
     if request_search::free_exposure(book) != 64 {
@@ -144,8 +144,8 @@ pub fn exposure_code(book: &[u8], fields: &Fields) -> u64
 }
 
 // 5 or 7 by the names and days of a FOP, else 0.
-pub fn fop_name_code(book: &[u8], fields: &Fields) -> u64
-    requires { (length book.now ≡ book_length) × RequestIn fields.now × (basket_or_exposure_in fields.now < 16) }
+pub fn fop_name_code(book: &Book, fields: &Fields) -> u64
+    requires { RequestIn fields.now × (basket_or_exposure_in fields.now < 16) }
     ensures { result ≡ lowest (fop_name_rules (state book.now) fields.now) }
 {
     let party = party_code(book, fields);
@@ -164,16 +164,16 @@ pub fn fop_name_code(book: &[u8], fields: &Fields) -> u64
 }
 
 // Is the exposure that a return names used, with its giver and taker?
-pub fn names_exposure(book: &[u8], fields: &Fields) -> bool
-    requires { (length book.now ≡ book_length) × RequestIn fields.now }
+pub fn names_exposure(book: &Book, fields: &Fields) -> bool
+    requires { RequestIn fields.now }
     ensures { result ≡ is_exposure_of (state book.now) (giver_in fields.now) (taker_in fields.now) (basket_or_exposure_in fields.now) }
 {
     let e = fields[3] as usize;
-    if book::get(book, IN_USE, e) != 1 {
+    if book::get(book, Table::InUse, e) != 1 {
         return false;
     }
-    if book::get(book, EXPOSURE_GIVERS, e) != fields[1] {
+    if book::get(book, Table::ExposureGivers, e) != fields[1] {
         return false;
     }
-    book::get(book, EXPOSURE_TAKERS, e) == fields[2]
+    book::get(book, Table::ExposureTakers, e) == fields[2]
 }

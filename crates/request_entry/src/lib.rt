@@ -9,68 +9,66 @@ ghost use Rattle.rules.specs.Requesting.{exposure_given, with_taker, with_equal,
 ghost use Rattle.request_rows.specs.Rows.{EntryIn};
 ghost use Rattle.request_entry.specs.Entering.{RoomForOne, RoomForTwo, ExposureRoom, with_exposure};
 
-use book::layout::{
-    EXPOSURE_AMOUNTS, EXPOSURE_BASKETS, EXPOSURE_CLOSINGS, EXPOSURE_GIVERS, EXPOSURE_TAKERS,
-    IN_USE, NEXT_NUMBER, NUMBERS, PAIR_PARTIALS, PARTNERS,
-};
+use book::Book;
+use book::layout::Table;
 use record_kinds::Fields;
 
 // Enters a request that waits for an equal one.
-pub fn enter_waiting(book: &mut [u8], kind: u64, fields: &Fields)
-    requires { (length book.old ≡ book_length) × EntryIn kind fields.now × RoomForOne (state book.old) }
+pub fn enter_waiting(book: &mut Book, kind: u64, fields: &Fields)
+    requires { EntryIn kind fields.now × RoomForOne (state book.old) }
     ensures { state book.new ≡ waiting (state book.old) kind fields.now }
 {
-    let number = book::get(book, NEXT_NUMBER, 0);
+    let number = book::get(book, Table::NextNumber, 0);
     let i = request_rows::take_row(book, number);
     request_rows::fill_row(book, kind, fields, i, fields[0], 0, 0);
-    book::set(book, NEXT_NUMBER, 0, number + 1);
+    book::set(book, Table::NextNumber, 0, number + 1);
 }
 
 // Enters a request and pairs it with the row j.
-pub fn enter_with_equal(book: &mut [u8], kind: u64, fields: &Fields, j: usize)
-    requires { (length book.old ≡ book_length) × EntryIn kind fields.now × RoomForOne (state book.old) × (j < 256) }
+pub fn enter_with_equal(book: &mut Book, kind: u64, fields: &Fields, j: usize)
+    requires { EntryIn kind fields.now × RoomForOne (state book.old) × (j < 256) }
     ensures { state book.new ≡ with_equal (state book.old) kind fields.now j }
 {
-    let number = book::get(book, NEXT_NUMBER, 0);
+    let number = book::get(book, Table::NextNumber, 0);
     let mark = request_rows::partial_mark(book, fields);
     let i = request_rows::take_row(book, number);
     request_rows::fill_row(book, kind, fields, i, fields[0], j as u64 + 1, mark);
-    book::set(book, PARTNERS, j, i as u64 + 1);
-    book::set(book, PAIR_PARTIALS, j, mark);
-    book::set(book, NEXT_NUMBER, 0, number + 1);
+    book::set(book, Table::Partners, j, i as u64 + 1);
+    book::set(book, Table::PairPartials, j, mark);
+    book::set(book, Table::NextNumber, 0, number + 1);
 }
 
 // Enters a giver's request and the taker request made for it, with the same reference, and pairs them.
-pub fn enter_with_taker(book: &mut [u8], kind: u64, fields: &Fields)
-    requires { (length book.old ≡ book_length) × EntryIn kind fields.now × RoomForTwo (state book.old) }
+pub fn enter_with_taker(book: &mut Book, kind: u64, fields: &Fields)
+    requires { EntryIn kind fields.now × RoomForTwo (state book.old) }
     ensures { state book.new ≡ with_taker (state book.old) kind fields.now }
 {
-    let number = book::get(book, NEXT_NUMBER, 0);
+    let number = book::get(book, Table::NextNumber, 0);
     let mark = request_rows::partial_mark(book, fields);
     let i = request_rows::take_row(book, number);
     let j = request_search::free_row(book);
     request_rows::fill_row(book, kind, fields, i, 0, j as u64 + 1, mark);
-    book::set(book, NUMBERS, j, number + 1);
+    book::set(book, Table::Numbers, j, number + 1);
     request_rows::fill_row(book, kind, fields, j, 1, i as u64 + 1, mark);
-    book::set(book, NEXT_NUMBER, 0, number + 2);
+    book::set(book, Table::NextNumber, 0, number + 2);
 }
 
 // Gives out the exposure row e, with the key of a FOP and the amount 0.
-fn give_exposure(book: &mut [u8], fields: &Fields, e: usize)
-    requires { (length book.old ≡ book_length) × EntryIn 6 fields.now × (e < 64) }
+fn give_exposure(book: &mut Book, fields: &Fields, e: usize)
+    requires { EntryIn 6 fields.now × (e < 64) }
     ensures { state book.new ≡ exposure_given (state book.old) fields.now e }
 {
-    book::set(book, IN_USE, e, 1);
-    book::set(book, EXPOSURE_GIVERS, e, fields[1]);
-    book::set(book, EXPOSURE_TAKERS, e, fields[2]);
-    book::set(book, EXPOSURE_BASKETS, e, fields[3]);
-    book::set(book, EXPOSURE_CLOSINGS, e, fields[6]);
-    book::set(book, EXPOSURE_AMOUNTS, e, 0);
+    book::set(book, Table::InUse, e, 1);
+    book::set(book, Table::ExposureGivers, e, fields[1]);
+    book::set(book, Table::ExposureTakers, e, fields[2]);
+    book::set(book, Table::ExposureBaskets, e, fields[3]);
+    book::set(book, Table::ExposureClosings, e, fields[6]);
+    book::set(book, Table::ExposureAmounts, e, 0);
 }
 
 // A FOP pair belongs to the exposure with its key; where there is none yet, the lowest free row is given out.
-pub fn join_exposure(book: &mut [u8], kind: u64, fields: &Fields)
-    requires { (length book.old ≡ book_length) × EntryIn kind fields.now × ExposureRoom (state book.old) kind fields.now }
+pub fn join_exposure(book: &mut Book, kind: u64, fields: &Fields)
+    requires { EntryIn kind fields.now × ExposureRoom (state book.old) kind fields.now }
     ensures { state book.new ≡ with_exposure (state book.old) kind fields.now }
 {
     if kind != 6 {

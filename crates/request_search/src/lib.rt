@@ -10,30 +10,28 @@ ghost use Rattle.rules.specs.Fields.{closing_in};
 ghost use Rattle.request_search.specs.Ranges.{RequestIn};
 ghost use Rattle.request_search.specs.Rows.{rows_free, same_terms, other_side, earlier_of, open_or_whole};
 
-use book::layout::{
-    AMOUNTS, BASKETS_OR_EXPOSURES, CLOSINGS, ENDS, GIVERS, IN_USE, LISTS, MODES, NUMBERS, PARTNERS,
-    REQUEST_KINDS, SETTLED_AMOUNTS, SETTLEMENTS, SIDES, TAKERS,
-};
+use book::Book;
+use book::layout::Table;
 use record_kinds::Fields;
 
 // Is the taker automatic, or does it list the giver?
-pub fn accepts_giver(book: &[u8], taker: usize, giver: u64) -> bool
-    requires { (length book.now ≡ book_length) × (taker < 32) × (giver < 64) }
+pub fn accepts_giver(book: &Book, taker: usize, giver: u64) -> bool
+    requires { (taker < 32) × (giver < 64) }
     ensures { result ≡ accepts_giver (state book.now) taker giver }
 {
-    let mode = book::get(book, MODES, taker);
+    let mode = book::get(book, Table::Modes, taker);
     if mode == 1 {
         return true;
     }
     if mode == 2 {
-        return baskets::has_bit(book::get(book, LISTS, taker), giver);
+        return baskets::has_bit(book::get(book, Table::Lists, taker), giver);
     }
     false
 }
 
 // Is a taker request made for this one?
-pub fn does_taker_follow(book: &[u8], fields: &Fields) -> bool
-    requires { (length book.now ≡ book_length) × RequestIn fields.now }
+pub fn does_taker_follow(book: &Book, fields: &Fields) -> bool
+    requires { RequestIn fields.now }
     ensures { result ≡ taker_follows (state book.now) fields.now }
 {
     if fields[0] != 0 {
@@ -50,62 +48,62 @@ pub fn closing_in(kind: u64, fields: &Fields) -> u64
 }
 
 // Has the row i the record's basket or exposure, amount and days? The amount comes first: it differs most.
-fn has_terms(book: &[u8], kind: u64, fields: &Fields, i: usize) -> bool
-    requires { (length book.now ≡ book_length) × (i < 256) }
+fn has_terms(book: &Book, kind: u64, fields: &Fields, i: usize) -> bool
+    requires { i < 256 }
     ensures { result ≡ same_terms (state book.now) kind fields.now i }
 {
-    if book::get(book, AMOUNTS, i) != fields[4] {
+    if book::get(book, Table::Amounts, i) != fields[4] {
         return false;
     }
-    if book::get(book, SETTLEMENTS, i) != fields[5] {
+    if book::get(book, Table::Settlements, i) != fields[5] {
         return false;
     }
-    if book::get(book, BASKETS_OR_EXPOSURES, i) != fields[3] {
+    if book::get(book, Table::BasketsOrExposures, i) != fields[3] {
         return false;
     }
-    book::get(book, CLOSINGS, i) == closing_in(kind, fields)
+    book::get(book, Table::Closings, i) == closing_in(kind, fields)
 }
 
 // Is the row i equal to the record in all fields but side and reference, and of the other side?
-fn is_other_side(book: &[u8], kind: u64, fields: &Fields, i: usize) -> bool
-    requires { (length book.now ≡ book_length) × RequestIn fields.now × (i < 256) }
+fn is_other_side(book: &Book, kind: u64, fields: &Fields, i: usize) -> bool
+    requires { RequestIn fields.now × (i < 256) }
     ensures { result ≡ other_side (state book.now) kind fields.now i }
 {
     if !has_terms(book, kind, fields, i) {
         return false;
     }
-    if book::get(book, GIVERS, i) != fields[1] {
+    if book::get(book, Table::Givers, i) != fields[1] {
         return false;
     }
-    if book::get(book, TAKERS, i) != fields[2] {
+    if book::get(book, Table::Takers, i) != fields[2] {
         return false;
     }
-    if book::get(book, REQUEST_KINDS, i) != kind {
+    if book::get(book, Table::RequestKinds, i) != kind {
         return false;
     }
-    book::get(book, SIDES, i) == 1 - fields[0]
+    book::get(book, Table::Sides, i) == 1 - fields[0]
 }
 
 // Does the row i hold a live request that is not paired?
-fn is_waiting(book: &[u8], i: usize) -> bool
-    requires { (length book.now ≡ book_length) × (i < 256) }
+fn is_waiting(book: &Book, i: usize) -> bool
+    requires { i < 256 }
     ensures { result ≡ (is_live (state book.now) i && not (is_paired (state book.now) i)) }
 {
-    if book::get(book, NUMBERS, i) == 0 {
+    if book::get(book, Table::Numbers, i) == 0 {
         return false;
     }
-    if book::get(book, PARTNERS, i) != 0 {
+    if book::get(book, Table::Partners, i) != 0 {
         return false;
     }
-    if book::get(book, ENDS, i) != 0 {
+    if book::get(book, Table::Ends, i) != 0 {
         return false;
     }
-    book::get(book, SETTLED_AMOUNTS, i) < book::get(book, AMOUNTS, i)
+    book::get(book, Table::SettledAmounts, i) < book::get(book, Table::Amounts, i)
 }
 
 // May the record pair with the row i?
-fn is_equal(book: &[u8], kind: u64, fields: &Fields, i: usize) -> bool
-    requires { (length book.now ≡ book_length) × RequestIn fields.now × (i < 256) }
+fn is_equal(book: &Book, kind: u64, fields: &Fields, i: usize) -> bool
+    requires { RequestIn fields.now × (i < 256) }
     ensures { result ≡ is_equal (state book.now) kind fields.now i }
 {
     if is_other_side(book, kind, fields, i) {
@@ -116,8 +114,8 @@ fn is_equal(book: &[u8], kind: u64, fields: &Fields, i: usize) -> bool
 }
 
 // The earlier of the best row so far (256 where there is none) and the row i, where the record may pair with that.
-fn earlier(book: &[u8], kind: u64, fields: &Fields, best: usize, i: usize) -> usize
-    requires { (length book.now ≡ book_length) × RequestIn fields.now × (best ≤ 256) × (i < 256) }
+fn earlier(book: &Book, kind: u64, fields: &Fields, best: usize, i: usize) -> usize
+    requires { RequestIn fields.now × (best ≤ 256) × (i < 256) }
     ensures { result ≡ earlier_of (state book.now) kind fields.now best i }
 {
     if !is_equal(book, kind, fields, i) {
@@ -126,34 +124,31 @@ fn earlier(book: &[u8], kind: u64, fields: &Fields, best: usize, i: usize) -> us
     if best == 256 {
         return i;
     }
-    if book::get(book, NUMBERS, i) < book::get(book, NUMBERS, best) {
+    if book::get(book, Table::Numbers, i) < book::get(book, Table::Numbers, best) {
         return i;
     }
     best
 }
 
 // The row of the earliest request that the record may pair with: the one with the lowest number; 256 where there is none.
-pub fn earliest_equal(book: &[u8], kind: u64, fields: &Fields) -> usize
-    requires { (length book.now ≡ book_length) × RequestIn fields.now }
+pub fn earliest_equal(book: &Book, kind: u64, fields: &Fields) -> usize
+    requires { RequestIn fields.now }
     ensures { result ≡ earliest_equal (state book.now) kind fields.now }
 {
     let mut best: usize = 256;
-    let mut i: usize = 0;
-    while i < 256 {
+    for i in 0..256 {
         best = earlier(book, kind, fields, best, i);
-        i += 1;
     }
     best
 }
 
 // The lowest request row that is not used, 256 where there is none.
-pub fn free_row(book: &[u8]) -> usize
-    requires { length book.now ≡ book_length }
+pub fn free_row(book: &Book) -> usize
     ensures { result ≡ free_row (state book.now) }
 {
     let mut i: usize = 0;
     while i < 256 {
-        if book::get(book, NUMBERS, i) == 0 {
+        if book::get(book, Table::Numbers, i) == 0 {
             return i;
         }
         i += 1;
@@ -162,29 +157,25 @@ pub fn free_row(book: &[u8]) -> usize
 }
 
 // How many request rows are not used.
-pub fn free_rows(book: &[u8]) -> u64
-    requires { length book.now ≡ book_length }
+pub fn free_rows(book: &Book) -> u64
     ensures { result ≡ rows_free (state book.now) }
 {
     let mut rows: u64 = 0;
-    let mut i: usize = 0;
-    while i < 256 {
-        if book::get(book, NUMBERS, i) == 0 {
+    for i in 0..256 {
+        if book::get(book, Table::Numbers, i) == 0 {
             rows += 1;
         }
-        i += 1;
     }
     rows
 }
 
 // The lowest exposure row that is not used, 64 where there is none.
-pub fn free_exposure(book: &[u8]) -> usize
-    requires { length book.now ≡ book_length }
+pub fn free_exposure(book: &Book) -> usize
     ensures { result ≡ free_exposure (state book.now) }
 {
     let mut e: usize = 0;
     while e < 64 {
-        if book::get(book, IN_USE, e) == 0 {
+        if book::get(book, Table::InUse, e) == 0 {
             return e;
         }
         e += 1;
@@ -193,37 +184,37 @@ pub fn free_exposure(book: &[u8]) -> usize
 }
 
 // Has the request not ended, or has it settled whole?
-fn is_open_or_whole(book: &[u8], i: usize) -> bool
-    requires { (length book.now ≡ book_length) × (i < 256) }
+fn is_open_or_whole(book: &Book, i: usize) -> bool
+    requires { i < 256 }
     ensures { result ≡ open_or_whole (state book.now) i }
 {
-    if book::get(book, ENDS, i) == 0 {
+    if book::get(book, Table::Ends, i) == 0 {
         return true;
     }
-    book::get(book, AMOUNTS, i) <= book::get(book, SETTLED_AMOUNTS, i)
+    book::get(book, Table::Amounts, i) <= book::get(book, Table::SettledAmounts, i)
 }
 
 // Is the participant the request's owner: the giver of side 0, the taker of side 1?
-fn is_owner(book: &[u8], i: usize, p: u64) -> bool
-    requires { (length book.now ≡ book_length) × (i < 256) }
+fn is_owner(book: &Book, i: usize, p: u64) -> bool
+    requires { i < 256 }
     ensures { result ≡ is_owner (state book.now) i p }
 {
-    let side = book::get(book, SIDES, i);
+    let side = book::get(book, Table::Sides, i);
     if side == 0 {
-        return book::get(book, GIVERS, i) == p;
+        return book::get(book, Table::Givers, i) == p;
     }
     if side == 1 {
-        return book::get(book, TAKERS, i) == p;
+        return book::get(book, Table::Takers, i) == p;
     }
     false
 }
 
 // Is the row i the participant's request of that number, live or settled whole?
-fn is_own_request(book: &[u8], p: u64, number: u64, i: usize) -> bool
-    requires { (length book.now ≡ book_length) × (i < 256) }
+fn is_own_request(book: &Book, p: u64, number: u64, i: usize) -> bool
+    requires { i < 256 }
     ensures { result ≡ is_own_request (state book.now) p number i }
 {
-    let found = book::get(book, NUMBERS, i);
+    let found = book::get(book, Table::Numbers, i);
     if found != number {
         return false;
     }
@@ -237,8 +228,7 @@ fn is_own_request(book: &[u8], p: u64, number: u64, i: usize) -> bool
 }
 
 // The row of the request that a cancel names, 256 where there is none.
-pub fn own_request(book: &[u8], p: u64, number: u64) -> usize
-    requires { length book.now ≡ book_length }
+pub fn own_request(book: &Book, p: u64, number: u64) -> usize
     ensures { result ≡ own_request (state book.now) p number }
 {
     let mut i: usize = 0;

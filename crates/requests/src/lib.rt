@@ -14,19 +14,17 @@ ghost use Rattle.totals.specs.Totals.{totals_of};
 ghost use Rattle.request_rows.specs.Rows.{EntryIn};
 ghost use Rattle.requests.specs.Steps.{cancelled_pair, Entered, Room, PairIn};
 
-use book::layout::{
-    CANCELS, ENDS, GIVERS, MODES, NEXT_NUMBER, NUMBERS, PARTNERS, SETTLED_AMOUNTS, SIDES, TAKERS,
-    TOLERANCE,
-};
+use book::Book;
+use book::layout::Table;
 use record_kinds::Fields;
 use totals::Totals;
 
 // 6: the code of a FOP.
-pub fn fop_code(book: &[u8], fields: &Fields) -> u64
-    requires { (length book.now ≡ book_length) × (are_legal 6 fields.now ≡ true) × (sound (state book.now) ≡ true) }
+pub fn fop_code(book: &Book, fields: &Fields) -> u64
+    requires { (are_legal 6 fields.now ≡ true) × (sound (state book.now) ≡ true) }
     ensures { result ≡ lowest (fop_rules (state book.now) fields.now) }
 {
-    if fields[4] < book::get(book, TOLERANCE, 0) {
+    if fields[4] < book::get(book, Table::Tolerance, 0) {
         return 4;
     }
     let name = request_codes::fop_name_code(book, fields);
@@ -45,8 +43,8 @@ pub fn fop_code(book: &[u8], fields: &Fields) -> u64
 }
 
 // 7: the code of a return.
-pub fn return_code(book: &[u8], fields: &Fields) -> u64
-    requires { (length book.now ≡ book_length) × (are_legal 7 fields.now ≡ true) × (sound (state book.now) ≡ true) }
+pub fn return_code(book: &Book, fields: &Fields) -> u64
+    requires { (are_legal 7 fields.now ≡ true) × (sound (state book.now) ≡ true) }
     ensures { result ≡ lowest (return_rules (state book.now) fields.now) }
 {
     let party = request_codes::party_code(book, fields);
@@ -69,12 +67,12 @@ pub fn return_code(book: &[u8], fields: &Fields) -> u64
 
 // Enters a request's rows, paired with the taker request made for it, or with the earliest equal one, or left to wait. The number of the
 // request that it is paired with, 0 where it waits.
-fn enter_rows(book: &mut [u8], kind: u64, fields: &Fields) -> u64
-    requires { (length book.old ≡ book_length) × EntryIn kind fields.now × Room (state book.old) kind fields.now }
+fn enter_rows(book: &mut Book, kind: u64, fields: &Fields) -> u64
+    requires { EntryIn kind fields.now × Room (state book.old) kind fields.now }
     ensures { Entered (state book.old) kind fields.now result (state book.new) }
 {
     if request_search::does_taker_follow(book, fields) {
-        let number = book::get(book, NEXT_NUMBER, 0);
+        let number = book::get(book, Table::NextNumber, 0);
         request_entry::enter_with_taker(book, kind, fields);
         request_entry::join_exposure(book, kind, fields);
         return number + 1;
@@ -84,18 +82,18 @@ fn enter_rows(book: &mut [u8], kind: u64, fields: &Fields) -> u64
         request_entry::enter_waiting(book, kind, fields);
         return 0;
     }
-    let partner = book::get(book, NUMBERS, j);
+    let partner = book::get(book, Table::Numbers, j);
     request_entry::enter_with_equal(book, kind, fields, j);
     request_entry::join_exposure(book, kind, fields);
     partner
 }
 
 // 6 and 7: enters a request, which gets the next number.
-fn enter(book: &mut [u8], kind: u64, fields: &Fields) -> Totals
-    requires { (length book.old ≡ book_length) × EntryIn kind fields.now × Room (state book.old) kind fields.now }
+fn enter(book: &mut Book, kind: u64, fields: &Fields) -> Totals
+    requires { EntryIn kind fields.now × Room (state book.old) kind fields.now }
     ensures { (result ≡ totals_of (entered (state book.old) kind fields.now)) × (state book.new ≡ (entered (state book.old) kind fields.now).state) }
 {
-    let number = book::get(book, NEXT_NUMBER, 0);
+    let number = book::get(book, Table::NextNumber, 0);
     let partner = enter_rows(book, kind, fields);
     Totals {
         a: number,
@@ -105,79 +103,79 @@ fn enter(book: &mut [u8], kind: u64, fields: &Fields) -> Totals
 }
 
 // 6: enters a FOP.
-pub fn enter_fop(book: &mut [u8], fields: &Fields) -> Totals
-    requires { (length book.old ≡ book_length) × (are_legal 6 fields.now ≡ true) × (sound (state book.old) ≡ true) × (lowest (fop_rules (state book.old) fields.now) ≡ 0) }
+pub fn enter_fop(book: &mut Book, fields: &Fields) -> Totals
+    requires { (are_legal 6 fields.now ≡ true) × (sound (state book.old) ≡ true) × (lowest (fop_rules (state book.old) fields.now) ≡ 0) }
     ensures { (result ≡ totals_of (entered (state book.old) 6 fields.now)) × (state book.new ≡ (entered (state book.old) 6 fields.now).state) }
 {
     enter(book, 6, fields)
 }
 
 // 7: enters a return.
-pub fn enter_return(book: &mut [u8], fields: &Fields) -> Totals
-    requires { (length book.old ≡ book_length) × (are_legal 7 fields.now ≡ true) × (sound (state book.old) ≡ true) × (lowest (return_rules (state book.old) fields.now) ≡ 0) }
+pub fn enter_return(book: &mut Book, fields: &Fields) -> Totals
+    requires { (are_legal 7 fields.now ≡ true) × (sound (state book.old) ≡ true) × (lowest (return_rules (state book.old) fields.now) ≡ 0) }
     ensures { (result ≡ totals_of (entered (state book.old) 7 fields.now)) × (state book.new ≡ (entered (state book.old) 7 fields.now).state) }
 {
     enter(book, 7, fields)
 }
 
 // 8: the code of a cancel.
-pub fn cancel_code(book: &[u8], fields: &Fields) -> u64
-    requires { (length book.now ≡ book_length) × (are_legal 8 fields.now ≡ true) × (sound (state book.now) ≡ true) }
+pub fn cancel_code(book: &Book, fields: &Fields) -> u64
+    requires { (are_legal 8 fields.now ≡ true) × (sound (state book.now) ≡ true) }
     ensures { result ≡ lowest (cancel_rules (state book.now) fields.now) }
 {
-    if book::get(book, MODES, fields[0] as usize) == 0 {
+    if book::get(book, Table::Modes, fields[0] as usize) == 0 {
         return 5;
     }
     let i = request_search::own_request(book, fields[0], fields[1]);
     if i == 256 {
         return 12;
     }
-    if book::get(book, SETTLED_AMOUNTS, i) != 0 {
+    if book::get(book, Table::SettledAmounts, i) != 0 {
         return 13;
     }
     0
 }
 
 // Does a paired request end, with its partner, when its owner cancels it?
-fn does_pair_end(book: &[u8], i: usize, j: usize) -> bool
-    requires { (length book.now ≡ book_length) × PairIn (state book.now) i j }
+fn does_pair_end(book: &Book, i: usize, j: usize) -> bool
+    requires { PairIn (state book.now) i j }
     ensures { result ≡ pair_ends (state book.now) i }
 {
-    if book::get(book, CANCELS, j) == 1 {
+    if book::get(book, Table::Cancels, j) == 1 {
         return true;
     }
-    if book::get(book, SIDES, i) != 0 {
+    if book::get(book, Table::Sides, i) != 0 {
         return false;
     }
     request_search::accepts_giver(
         book,
-        book::get(book, TAKERS, i) as usize,
-        book::get(book, GIVERS, i),
+        book::get(book, Table::Takers, i) as usize,
+        book::get(book, Table::Givers, i),
     )
 }
 
 // Notes the cancel of a paired request by its owner, and ends the pair where that is enough.
-fn cancel_paired(book: &mut [u8], i: usize, j: usize)
-    requires { (length book.old ≡ book_length) × PairIn (state book.old) i j }
+fn cancel_paired(book: &mut Book, i: usize, j: usize)
+    requires { PairIn (state book.old) i j }
     ensures { state book.new ≡ cancelled_pair (state book.old) i }
 {
     let ends = does_pair_end(book, i, j);
-    book::set(book, CANCELS, i, 1);
+    book::set(book, Table::Cancels, i, 1);
     if ends {
-        book::set(book, ENDS, i, 1);
-        book::set(book, ENDS, j, 1);
+        book::set(book, Table::Ends, i, 1);
+        book::set(book, Table::Ends, j, 1);
     }
 }
 
 // 8: cancels a request of its owner.
-pub fn cancel(book: &mut [u8], fields: &Fields) -> Totals
-    requires { (length book.old ≡ book_length) × (are_legal 8 fields.now ≡ true) × (sound (state book.old) ≡ true) × (lowest (cancel_rules (state book.old) fields.now) ≡ 0) }
+pub fn cancel(book: &mut Book, fields: &Fields) -> Totals
+    requires { (are_legal 8 fields.now ≡ true) × (sound (state book.old) ≡ true) × (lowest (cancel_rules (state book.old) fields.now) ≡ 0) }
     ensures { (result ≡ totals_of (cancelled (state book.old) fields.now)) × (state book.new ≡ (cancelled (state book.old) fields.now).state) }
 {
     let i = request_search::own_request(book, fields[0], fields[1]);
-    let partner = book::get(book, PARTNERS, i);
+    let partner = book::get(book, Table::Partners, i);
     if partner == 0 {
-        book::set(book, ENDS, i, 1);
+        book::set(book, Table::Ends, i, 1);
     } else {
         cancel_paired(book, i, partner as usize - 1);
     }

@@ -8,6 +8,7 @@ ghost use Rattle.rules.specs.ByRow.{same};
 ghost use Rattle.row_tests.specs.Bytes.{empty_bytes, empty_rows};
 ghost use Rattle.row_tests.specs.Rows.{InRows, alike, blank};
 
+use book::Book;
 use book::layout;
 
 // Are all of some bytes 0? There is no way out on the way, so that the compiler takes sixteen bytes at a time.
@@ -15,17 +16,15 @@ pub fn are_empty(bytes: &[u8]) -> bool
     ensures { result ≡ empty_bytes bytes.now }
 {
     let mut seen: u8 = 0;
-    let mut k: usize = 0;
-    while k < bytes.len() {
+    for k in 0..bytes.len() {
         seen = seen | bytes[k];
-        k += 1;
     }
     seen == 0
 }
 
 // Do rows of a table hold nothing? They are bytes in a row.
-pub fn are_rows_empty(book: &[u8], f: usize, start: usize, n: usize) -> bool
-    requires { (length book.now ≡ book_length) × (f < table_count) × (0 < n) × (start + n ≤ rows_of f) }
+pub fn are_rows_empty(book: &Book, f: usize, start: usize, n: usize) -> bool
+    requires { (0 < n) × (start + n ≤ rows_of f) }
     ensures { result ≡ empty_rows (state book.now) f start n }
 {
     let width = layout::width_of(f);
@@ -35,47 +34,43 @@ pub fn are_rows_empty(book: &[u8], f: usize, start: usize, n: usize) -> bool
 }
 
 // Do two rows of a table hold the same?
-fn is_same(book: &[u8], f: usize, i: usize, j: usize) -> bool
-    requires { (length book.now ≡ book_length) × (f < table_count) × (i < rows_of f) × (j < rows_of f) }
+fn is_same(book: &Book, f: usize, i: usize, j: usize) -> bool
+    requires { (i < rows_of f) × (j < rows_of f) }
     ensures { result ≡ same (state book.now) f i j }
 {
     book::get(book, f, i) == book::get(book, f, j)
 }
 
 // Does a row of a table hold nothing?
-fn is_zero(book: &[u8], f: usize, i: usize) -> bool
-    requires { (length book.now ≡ book_length) × (f < table_count) × (i < rows_of f) }
+fn is_zero(book: &Book, f: usize, i: usize) -> bool
+    requires { i < rows_of f }
     ensures { result ≡ eqb (state book.now f i) 0 }
 {
     book::get(book, f, i) == 0
 }
 
 // Do two rows hold the same in each of n tables from one on?
-pub fn are_alike(book: &[u8], n: usize, from: usize, i: usize, j: usize) -> bool
-    requires { (length book.now ≡ book_length) × InRows n from i × InRows n from j }
+pub fn are_alike(book: &Book, n: usize, from: usize, i: usize, j: usize) -> bool
+    requires { InRows n from i × InRows n from j }
     ensures { result ≡ alike (state book.now) n from i j }
 {
-    let mut f = from;
-    while f < from + n {
+    for f in from..from + n {
         if !is_same(book, f, i, j) {
             return false;
         }
-        f += 1;
     }
     true
 }
 
 // Does a row hold nothing in any of n tables from one on?
-pub fn is_blank(book: &[u8], n: usize, from: usize, i: usize) -> bool
-    requires { (length book.now ≡ book_length) × InRows n from i }
+pub fn is_blank(book: &Book, n: usize, from: usize, i: usize) -> bool
+    requires { InRows n from i }
     ensures { result ≡ blank (state book.now) n from i }
 {
-    let mut f = from;
-    while f < from + n {
+    for f in from..from + n {
         if !is_zero(book, f, i) {
             return false;
         }
-        f += 1;
     }
     true
 }

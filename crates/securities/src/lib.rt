@@ -53,10 +53,8 @@ pub fn worth_of(nominals: &[u64; 64], columns: &[u64; 256]) -> u64
     ensures { result ≡ worth columns.now (nominals_of nominals.now) }
 {
     let mut cents: u64 = 0;
-    let mut i: usize = 0;
-    while i < 64 {
+    for i in 0..64 {
         cents += value_at(nominals, columns, i);
-        i += 1;
     }
     cents
 }
@@ -109,12 +107,10 @@ fn is_legal_at(columns: &[u64; 256], i: usize) -> bool
 pub fn are_legal(columns: &[u64; 256]) -> bool
     ensures { result ≡ legal_securities columns.now }
 {
-    let mut i: usize = 0;
-    while i < 64 {
+    for i in 0..64 {
         if !is_legal_at(columns, i) {
             return false;
         }
-        i += 1;
     }
     true
 }
@@ -131,12 +127,10 @@ pub fn are_quoted(today: u64, columns: &[u64; 256]) -> bool
     requires { open_day today ≡ true }
     ensures { result ≡ legal_quotes today columns.now }
 {
-    let mut i: usize = 0;
-    while i < 64 {
+    for i in 0..64 {
         if !is_quoted_at(today, columns, i) {
             return false;
         }
-        i += 1;
     }
     true
 }
@@ -152,12 +146,10 @@ fn is_nominal_at(nominals: &[u64; 64], i: usize) -> bool
 pub fn are_nominals(nominals: &[u64; 64]) -> bool
     ensures { result ≡ legal_nominals nominals.now }
 {
-    let mut i: usize = 0;
-    while i < 64 {
+    for i in 0..64 {
         if !is_nominal_at(nominals, i) {
             return false;
         }
-        i += 1;
     }
     true
 }

@@ -12,18 +12,19 @@ ghost use Rattle.settlement_laws.specs.Ways.{PairOf, way_of, settle_by};
 ghost use Rattle.totals.specs.Totals.{totals_of};
 ghost use Rattle.settlement.specs.Passes.{begun, Alike, Room, Within, Passed};
 
+use book::Book;
 use totals::Totals;
 
 // Settles one pair, and counts it where something settled.
 fn settle_pair(
-    book: &mut [u8],
+    book: &mut Book,
     columns: &[u64; 256],
     since: &[u64; 16],
     kind: u64,
     i: usize,
     t: Totals,
 ) -> Totals
-    requires { (length book.old ≡ book_length) × Good (state book.old) × PairOf (state book.old) kind i × (columns.now ≡ columns_of (state book.old)) × Room 512 t × FreshBaskets (state book.old) since.now }
+    requires { Good (state book.old) × PairOf (state book.old) kind i × (columns.now ≡ columns_of (state book.old)) × Room 512 t × FreshBaskets (state book.old) since.now }
     ensures { Alike (begun (state book.new) result) (settle_by (way_of kind) (begun (state book.old) t) i) × Within t 1 result }
 {
     if kind == 7 {
@@ -50,35 +51,33 @@ fn settle_pair(
 
 // Settles the pairs of a kind in their order, each once. Which are due is found once: settling one leaves those after it due.
 fn settle_pairs(
-    book: &mut [u8],
+    book: &mut Book,
     columns: &[u64; 256],
     since: &[u64; 16],
     kind: u64,
     start: Totals,
 ) -> Totals
-    requires { (length book.old ≡ book_length) × Good (state book.old) × (columns.now ≡ columns_of (state book.old)) × Room 256 start × FreshBaskets (state book.old) since.now }
+    requires { Good (state book.old) × (columns.now ≡ columns_of (state book.old)) × Room 256 start × FreshBaskets (state book.old) since.now }
     ensures { Passed kind (state book.old) start (state book.new) result }
 {
     let mut keys = [0u64; 256];
     let count = due_pairs::collect(book, kind, &mut keys);
     let mut total = start;
     let mut last: u64 = 0;
-    let mut n: usize = 0;
-    while n < 256 {
+    for n in 0..256 {
         let key = due_pairs::next_key(&keys, count, (last + 1) * 256);
         if key == due_pairs::NO_KEY {
             return total;
         }
         last = key / 256;
         total = settle_pair(book, columns, since, kind, (key % 256) as usize, total);
-        n += 1;
     }
     total
 }
 
 // 9: settles what is due, returns before FOPs. A: FOPs changed, B: returns changed, M: cents settled by both.
-pub fn settle(book: &mut [u8]) -> Totals
-    requires { (length book.old ≡ book_length) × (sound (state book.old) ≡ true) }
+pub fn settle(book: &mut Book) -> Totals
+    requires { sound (state book.old) ≡ true }
     ensures { (result ≡ totals_of (settlement (state book.old))) × (state book.new ≡ (settlement (state book.old)).state) }
 {
     let columns = book::columns(book);

@@ -10,20 +10,16 @@ ghost use Rattle.rules.specs.Codes.{opening_rules, price_rules, basket_rules};
 ghost use Rattle.rules.specs.Outcome.{lowest};
 ghost use Rattle.rules.specs.SetUp.{opened, priced, enrolled, basket_made};
 
-use book::layout::{
-    GREATEST_AGES, HAIRCUTS, LISTS, LOTS, MAPS, MODES, NEXT_NUMBER, PARTIALS, PRICES, QUOTE_DAYS,
-    TODAY, TOLERANCE, WAITING_LISTS, WAITING_MODES, WAITING_PARTIALS,
-};
+use book::Book;
+use book::layout::Table;
 use record_kinds::Fields;
 
 // Makes every byte 0.
-fn clear(book: &mut [u8])
+fn clear(book: &mut Book)
     ensures { book.new ≡ replicate (length book.old) 0 }
 {
-    let mut i: usize = 0;
-    while i < book.len() {
+    for i in 0..book.len() {
         book[i] = 0;
-        i += 1;
     }
 }
 
@@ -35,22 +31,22 @@ pub fn opening_code(fields: &Fields) -> u64
 }
 
 // 0: the empty book with a day and a tolerance.
-pub fn open(book: &mut [u8], fields: &Fields)
-    requires { (length book.old ≡ book_length) × (are_legal 0 fields.now ≡ true) }
+pub fn open(book: &mut Book, fields: &Fields)
+    requires { are_legal 0 fields.now ≡ true }
     ensures { state book.new ≡ (opened fields.now).state }
 {
     clear(book);
-    book::set(book, TODAY, 0, fields[0]);
-    book::set(book, TOLERANCE, 0, fields[1]);
-    book::set(book, NEXT_NUMBER, 0, 1);
+    book::set(book, Table::Today, 0, fields[0]);
+    book::set(book, Table::Tolerance, 0, fields[1]);
+    book::set(book, Table::NextNumber, 0, 1);
 }
 
 // 1: the code of a price.
-pub fn price_code(book: &[u8], fields: &Fields) -> u64
-    requires { (length book.now ≡ book_length) × (are_legal 1 fields.now ≡ true) }
+pub fn price_code(book: &Book, fields: &Fields) -> u64
+    requires { are_legal 1 fields.now ≡ true }
     ensures { result ≡ lowest (price_rules (state book.now) fields.now) }
 {
-    let lot = book::get(book, LOTS, fields[0] as usize);
+    let lot = book::get(book, Table::Lots, fields[0] as usize);
     if lot != 0 {
         if lot != fields[1] {
             return 6;
@@ -59,47 +55,47 @@ pub fn price_code(book: &[u8], fields: &Fields) -> u64
     if !calendar::is_open(fields[4]) {
         return 7;
     }
-    if book::get(book, TODAY, 0) < fields[4] {
+    if book::get(book, Table::Today, 0) < fields[4] {
         return 7;
     }
     0
 }
 
 // 1: the price of a security.
-pub fn price(book: &mut [u8], fields: &Fields)
-    requires { (length book.old ≡ book_length) × (are_legal 1 fields.now ≡ true) }
+pub fn price(book: &mut Book, fields: &Fields)
+    requires { are_legal 1 fields.now ≡ true }
     ensures { state book.new ≡ (priced (state book.old) fields.now).state }
 {
     let i = fields[0] as usize;
-    book::set(book, LOTS, i, fields[1]);
-    book::set(book, PRICES, i, fields[2]);
-    book::set(book, HAIRCUTS, i, fields[3]);
-    book::set(book, QUOTE_DAYS, i, fields[4]);
+    book::set(book, Table::Lots, i, fields[1]);
+    book::set(book, Table::Prices, i, fields[2]);
+    book::set(book, Table::Haircuts, i, fields[3]);
+    book::set(book, Table::QuoteDays, i, fields[4]);
 }
 
 // 2: a participant's profile: at once where it is the first, else it waits for the next day.
-pub fn enrol(book: &mut [u8], fields: &Fields)
-    requires { (length book.old ≡ book_length) × (are_legal 2 fields.now ≡ true) }
+pub fn enrol(book: &mut Book, fields: &Fields)
+    requires { are_legal 2 fields.now ≡ true }
     ensures { state book.new ≡ (enrolled (state book.old) fields.now).state }
 {
     let p = fields[0] as usize;
-    if book::get(book, MODES, p) == 0 {
-        book::set(book, MODES, p, fields[1] + 1);
-        book::set(book, LISTS, p, fields[2]);
-        book::set(book, PARTIALS, p, fields[3]);
+    if book::get(book, Table::Modes, p) == 0 {
+        book::set(book, Table::Modes, p, fields[1] + 1);
+        book::set(book, Table::Lists, p, fields[2]);
+        book::set(book, Table::Partials, p, fields[3]);
     } else {
-        book::set(book, WAITING_MODES, p, fields[1] + 1);
-        book::set(book, WAITING_LISTS, p, fields[2]);
-        book::set(book, WAITING_PARTIALS, p, fields[3]);
+        book::set(book, Table::WaitingModes, p, fields[1] + 1);
+        book::set(book, Table::WaitingLists, p, fields[2]);
+        book::set(book, Table::WaitingPartials, p, fields[3]);
     }
 }
 
 // 3: the code of a basket.
-pub fn basket_code(book: &[u8], fields: &Fields) -> u64
-    requires { (length book.now ≡ book_length) × (are_legal 3 fields.now ≡ true) }
+pub fn basket_code(book: &Book, fields: &Fields) -> u64
+    requires { are_legal 3 fields.now ≡ true }
     ensures { result ≡ lowest (basket_rules (state book.now) fields.now) }
 {
-    if book::get(book, MAPS, fields[0] as usize) == 0 {
+    if book::get(book, Table::Maps, fields[0] as usize) == 0 {
         0
     } else {
         6
@@ -107,11 +103,11 @@ pub fn basket_code(book: &[u8], fields: &Fields) -> u64
 }
 
 // 3: a basket's map and greatest age.
-pub fn make_basket(book: &mut [u8], fields: &Fields)
-    requires { (length book.old ≡ book_length) × (are_legal 3 fields.now ≡ true) }
+pub fn make_basket(book: &mut Book, fields: &Fields)
+    requires { are_legal 3 fields.now ≡ true }
     ensures { state book.new ≡ (basket_made (state book.old) fields.now).state }
 {
     let b = fields[0] as usize;
-    book::set(book, MAPS, b, fields[1]);
-    book::set(book, GREATEST_AGES, b, fields[2]);
+    book::set(book, Table::Maps, b, fields[1]);
+    book::set(book, Table::GreatestAges, b, fields[2]);
 }

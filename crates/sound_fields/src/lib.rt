@@ -8,11 +8,8 @@ ghost use Rattle.rules.specs.ByRow.{return_names, sound_fop, sound_return, sound
 ghost use Rattle.open_days.specs.Days.{OpenDays};
 ghost use Rattle.sound_fields.specs.Rows.{Reads, marks_of};
 
-use book::layout::{
-    AMOUNTS, BASKETS_OR_EXPOSURES, CANCELS, CLOSINGS, ENDS, EXPOSURE_GIVERS, EXPOSURE_TAKERS,
-    GIVERS, IN_USE, NEXT_NUMBER, NUMBERS, PAIR_PARTIALS, PARTNERS, REQUEST_KINDS, SETTLED_AMOUNTS,
-    SETTLEMENTS, SIDES, TAKERS, TOLERANCE,
-};
+use book::Book;
+use book::layout::Table;
 use limits::GREATEST_AMOUNT;
 
 // A used row, each field read once: the reference says nothing about soundness.
@@ -35,32 +32,32 @@ pub struct Request {
     pub end: u64,
 }
 
-pub fn request_at(book: &[u8], i: usize) -> Request
-    requires { (length book.now ≡ book_length) × (i < 256) }
+pub fn request_at(book: &Book, i: usize) -> Request
+    requires { i < 256 }
     ensures { (result.row ≡ i) × Reads (state book.now) result }
 {
     Request {
         row: i,
-        number: book::get(book, NUMBERS, i),
-        kind: book::get(book, REQUEST_KINDS, i),
-        side: book::get(book, SIDES, i),
-        giver: book::get(book, GIVERS, i),
-        taker: book::get(book, TAKERS, i),
-        object: book::get(book, BASKETS_OR_EXPOSURES, i),
-        amount: book::get(book, AMOUNTS, i),
-        settlement: book::get(book, SETTLEMENTS, i),
-        closing: book::get(book, CLOSINGS, i),
-        settled: book::get(book, SETTLED_AMOUNTS, i),
-        partner: book::get(book, PARTNERS, i),
-        partial: book::get(book, PAIR_PARTIALS, i),
-        cancel: book::get(book, CANCELS, i),
-        end: book::get(book, ENDS, i),
+        number: book::get(book, Table::Numbers, i),
+        kind: book::get(book, Table::RequestKinds, i),
+        side: book::get(book, Table::Sides, i),
+        giver: book::get(book, Table::Givers, i),
+        taker: book::get(book, Table::Takers, i),
+        object: book::get(book, Table::BasketsOrExposures, i),
+        amount: book::get(book, Table::Amounts, i),
+        settlement: book::get(book, Table::Settlements, i),
+        closing: book::get(book, Table::Closings, i),
+        settled: book::get(book, Table::SettledAmounts, i),
+        partner: book::get(book, Table::Partners, i),
+        partial: book::get(book, Table::PairPartials, i),
+        cancel: book::get(book, Table::Cancels, i),
+        end: book::get(book, Table::Ends, i),
     }
 }
 
 // Does a return name a used exposure of its giver and taker?
-fn does_return_name(book: &[u8], q: Request) -> bool
-    requires { (length book.now ≡ book_length) × Reads (state book.now) q }
+fn does_return_name(book: &Book, q: Request) -> bool
+    requires { Reads (state book.now) q }
     ensures { result ≡ return_names (state book.now) q.row }
 {
     let object = q.object;
@@ -68,20 +65,20 @@ fn does_return_name(book: &[u8], q: Request) -> bool
         return false;
     }
     let e = object as usize;
-    if book::get(book, IN_USE, e) != 1 {
+    if book::get(book, Table::InUse, e) != 1 {
         return false;
     }
-    if book::get(book, EXPOSURE_GIVERS, e) != q.giver {
+    if book::get(book, Table::ExposureGivers, e) != q.giver {
         return false;
     }
-    book::get(book, EXPOSURE_TAKERS, e) == q.taker
+    book::get(book, Table::ExposureTakers, e) == q.taker
 }
 
-fn is_sound_fop(book: &[u8], q: Request, days: &[u64; 16]) -> bool
-    requires { (length book.now ≡ book_length) × Reads (state book.now) q × OpenDays days.now }
+fn is_sound_fop(book: &Book, q: Request, days: &[u64; 16]) -> bool
+    requires { Reads (state book.now) q × OpenDays days.now }
     ensures { result ≡ sound_fop (state book.now) q.row }
 {
-    let least = book::get(book, TOLERANCE, 0);
+    let least = book::get(book, Table::Tolerance, 0);
     if !sound_setup::is_basket_named(book, q.object) {
         return false;
     }
@@ -91,8 +88,8 @@ fn is_sound_fop(book: &[u8], q: Request, days: &[u64; 16]) -> bool
     open_days::is_open_or_none(days, q.closing)
 }
 
-fn is_sound_return(book: &[u8], q: Request) -> bool
-    requires { (length book.now ≡ book_length) × Reads (state book.now) q }
+fn is_sound_return(book: &Book, q: Request) -> bool
+    requires { Reads (state book.now) q }
     ensures { result ≡ sound_return (state book.now) q.row }
 {
     if !does_return_name(book, q) {
@@ -105,8 +102,8 @@ fn is_sound_return(book: &[u8], q: Request) -> bool
 }
 
 // The fields that depend on the kind.
-fn is_sound_kind(book: &[u8], q: Request, days: &[u64; 16]) -> bool
-    requires { (length book.now ≡ book_length) × Reads (state book.now) q × OpenDays days.now }
+fn is_sound_kind(book: &Book, q: Request, days: &[u64; 16]) -> bool
+    requires { Reads (state book.now) q × OpenDays days.now }
     ensures { result ≡ sound_kind (state book.now) q.row }
 {
     if q.kind == 6 {
@@ -134,11 +131,11 @@ fn are_sound_marks(q: Request) -> bool
     q.end <= 1
 }
 
-pub fn are_sound_fields(book: &[u8], q: Request, days: &[u64; 16]) -> bool
-    requires { (length book.now ≡ book_length) × Reads (state book.now) q × OpenDays days.now }
+pub fn are_sound_fields(book: &Book, q: Request, days: &[u64; 16]) -> bool
+    requires { Reads (state book.now) q × OpenDays days.now }
     ensures { result ≡ sound_fields (state book.now) q.row }
 {
-    let next = book::get(book, NEXT_NUMBER, 0);
+    let next = book::get(book, Table::NextNumber, 0);
     if next <= q.number {
         return false;
     }

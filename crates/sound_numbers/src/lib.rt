@@ -8,38 +8,37 @@ ghost use Rattle.book.specs.State.{state};
 ghost use Rattle.rules.specs.ByRow.{differs, distinct_number};
 ghost use Rattle.sound_numbers.specs.Numbers.{Marked};
 
-use book::layout::NUMBERS;
+use book::Book;
+use book::layout::Table;
 
-fn differ(book: &[u8], i: usize, j: usize) -> bool
-    requires { (length book.now ≡ book_length) × (i < 256) × (j < 256) }
+fn differ(book: &Book, i: usize, j: usize) -> bool
+    requires { (i < 256) × (j < 256) }
     ensures { result ≡ differs (state book.now) i j }
 {
-    book::get(book, NUMBERS, i) != book::get(book, NUMBERS, j)
+    book::get(book, Table::Numbers, i) != book::get(book, Table::Numbers, j)
 }
 
-fn is_distinct_number(book: &[u8], i: usize) -> bool
-    requires { (length book.now ≡ book_length) × (i < 256) }
+fn is_distinct_number(book: &Book, i: usize) -> bool
+    requires { i < 256 }
     ensures { result ≡ distinct_number (state book.now) i }
 {
-    if book::get(book, NUMBERS, i) == 0 {
+    if book::get(book, Table::Numbers, i) == 0 {
         return true;
     }
-    let mut j: usize = 0;
-    while j < i {
+    for j in 0..i {
         if !differ(book, i, j) {
             return false;
         }
-        j += 1;
     }
     true
 }
 
 // The same by the marks: a number whose slot is not marked differs from all before. Its slot is marked then.
-fn is_new_number(marks: &mut [u8; 4096], book: &[u8], i: usize) -> bool
-    requires { (length book.now ≡ book_length) × (i < 256) × Marked (state book.now) marks.old i }
+fn is_new_number(marks: &mut [u8; 4096], book: &Book, i: usize) -> bool
+    requires { (i < 256) × Marked (state book.now) marks.old i }
     ensures { (result ≡ distinct_number (state book.now) i) × Marked (state book.now) marks.new (i + 1) }
 {
-    let number = book::get(book, NUMBERS, i);
+    let number = book::get(book, Table::Numbers, i);
     if number == 0 {
         return true;
     }
@@ -53,17 +52,14 @@ fn is_new_number(marks: &mut [u8; 4096], book: &[u8], i: usize) -> bool
 }
 
 // "Request numbers are distinct", of all rows.
-pub fn are_distinct_numbers(book: &[u8]) -> bool
-    requires { length book.now ≡ book_length }
+pub fn are_distinct_numbers(book: &Book) -> bool
     ensures { result ≡ all (distinct_number (state book.now)) 256 0 }
 {
     let mut marks = [0u8; 4096];
-    let mut i: usize = 0;
-    while i < 256 {
+    for i in 0..256 {
         if !is_new_number(&mut marks, book, i) {
             return false;
         }
-        i += 1;
     }
     true
 }

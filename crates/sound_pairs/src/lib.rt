@@ -9,10 +9,8 @@ ghost use Rattle.rules.specs.ByRow.{marks_alike, sound_pair, sound_paired};
 ghost use Rattle.sound_fields.specs.Rows.{Reads};
 ghost use Rattle.sound_pairs.specs.Rest.{unpaired_of, sound_rest};
 
-use book::layout::{
-    AMOUNTS, BASKETS_OR_EXPOSURES, CLOSINGS, ENDS, GIVERS, PAIR_PARTIALS, PARTNERS, REQUEST_KINDS,
-    SETTLED_AMOUNTS, SETTLEMENTS, SIDES, TAKERS,
-};
+use book::Book;
+use book::layout::Table;
 use sound_fields::Request;
 
 // Is one of two sides 0 and the other 1?
@@ -29,29 +27,29 @@ fn are_opposite(a: u64, b: u64) -> bool
 }
 
 // The six fields that a pair has in common, from the giver to the closing.
-fn are_terms_alike(book: &[u8], q: Request, j: usize) -> bool
-    requires { (length book.now ≡ book_length) × Reads (state book.now) q × (j < 256) }
+fn are_terms_alike(book: &Book, q: Request, j: usize) -> bool
+    requires { Reads (state book.now) q × (j < 256) }
     ensures { result ≡ rows_alike (state book.now) term_tables q.row j }
 {
-    let giver = book::get(book, GIVERS, j);
-    let taker = book::get(book, TAKERS, j);
-    let object = book::get(book, BASKETS_OR_EXPOSURES, j);
-    let amount = book::get(book, AMOUNTS, j);
-    let settlement = book::get(book, SETTLEMENTS, j);
-    let closing = book::get(book, CLOSINGS, j);
+    let giver = book::get(book, Table::Givers, j);
+    let taker = book::get(book, Table::Takers, j);
+    let object = book::get(book, Table::BasketsOrExposures, j);
+    let amount = book::get(book, Table::Amounts, j);
+    let settlement = book::get(book, Table::Settlements, j);
+    let closing = book::get(book, Table::Closings, j);
     let key = (q.giver ^ giver) | (q.taker ^ taker) | (q.object ^ object);
     let all = key | (q.amount ^ amount) | (q.settlement ^ settlement) | (q.closing ^ closing);
     all == 0
 }
 
 // The marks of two rows that are paired.
-fn are_marks_alike(book: &[u8], q: Request, j: usize) -> bool
-    requires { (length book.now ≡ book_length) × Reads (state book.now) q × (j < 256) }
+fn are_marks_alike(book: &Book, q: Request, j: usize) -> bool
+    requires { Reads (state book.now) q × (j < 256) }
     ensures { result ≡ marks_alike (state book.now) q.row j }
 {
-    let settled = book::get(book, SETTLED_AMOUNTS, j);
-    let end = book::get(book, ENDS, j);
-    let partial = book::get(book, PAIR_PARTIALS, j);
+    let settled = book::get(book, Table::SettledAmounts, j);
+    let end = book::get(book, Table::Ends, j);
+    let partial = book::get(book, Table::PairPartials, j);
     if q.settled != settled {
         return false;
     }
@@ -63,16 +61,16 @@ fn are_marks_alike(book: &[u8], q: Request, j: usize) -> bool
 
 // Two rows that are paired: they name each other, their sides are opposite, and the rest is equal. The partner's row is read
 // before the tests, all at once.
-fn is_sound_pair(book: &[u8], q: Request, j: usize) -> bool
-    requires { (length book.now ≡ book_length) × Reads (state book.now) q }
+fn is_sound_pair(book: &Book, q: Request, j: usize) -> bool
+    requires { Reads (state book.now) q }
     ensures { result ≡ sound_pair (state book.now) q.row j }
 {
     if 256 <= j {
         return false;
     }
-    let partner = book::get(book, PARTNERS, j);
-    let kind = book::get(book, REQUEST_KINDS, j);
-    let side = book::get(book, SIDES, j);
+    let partner = book::get(book, Table::Partners, j);
+    let kind = book::get(book, Table::RequestKinds, j);
+    let side = book::get(book, Table::Sides, j);
     let terms = are_terms_alike(book, q, j);
     let marks = are_marks_alike(book, q, j);
     if partner != q.row as u64 + 1 {
@@ -91,8 +89,8 @@ fn is_sound_pair(book: &[u8], q: Request, j: usize) -> bool
 }
 
 // Is it a return, or does its FOP belong to a used exposure?
-fn does_belong(book: &[u8], hints: &[u8; 1024], q: Request) -> bool
-    requires { (length book.now ≡ book_length) × Reads (state book.now) q }
+fn does_belong(book: &Book, hints: &[u8; 1024], q: Request) -> bool
+    requires { Reads (state book.now) q }
     ensures { result ≡ (is_return (state book.now) q.row || ltb (exposure_of_fop (state book.now) q.row) 64) }
 {
     if q.kind == 7 {
@@ -101,8 +99,8 @@ fn does_belong(book: &[u8], hints: &[u8; 1024], q: Request) -> bool
     exposure_search::has_exposure(book, hints, q.giver, q.taker, q.object, q.closing)
 }
 
-fn is_sound_paired(book: &[u8], hints: &[u8; 1024], q: Request) -> bool
-    requires { (length book.now ≡ book_length) × Reads (state book.now) q × (0 < q.partner) }
+fn is_sound_paired(book: &Book, hints: &[u8; 1024], q: Request) -> bool
+    requires { Reads (state book.now) q × (0 < q.partner) }
     ensures { result ≡ sound_paired (state book.now) q.row }
 {
     let j = (q.partner - 1) as usize;
@@ -122,8 +120,8 @@ fn is_sound_unpaired(q: Request) -> bool
 }
 
 // What a used row has besides its fields: a pair, or nothing settled.
-pub fn is_sound_rest(book: &[u8], hints: &[u8; 1024], q: Request) -> bool
-    requires { (length book.now ≡ book_length) × Reads (state book.now) q }
+pub fn is_sound_rest(book: &Book, hints: &[u8; 1024], q: Request) -> bool
+    requires { Reads (state book.now) q }
     ensures { result ≡ sound_rest (state book.now) q.row }
 {
     if q.partner == 0 {

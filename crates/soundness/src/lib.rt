@@ -7,9 +7,10 @@ ghost use Rattle.book.specs.State.{state};
 ghost use Rattle.rules.specs.Sound.{sound};
 ghost use Rattle.rules.specs.ByRow.{sound_set_up, sound_requests, sound_exposures};
 
+use book::Book;
+
 // Is what is set up sound?
-fn is_set_up_sound(book: &[u8]) -> bool
-    requires { length book.now ≡ book_length }
+fn is_set_up_sound(book: &Book) -> bool
     ensures { result ≡ sound_set_up (state book.now) }
 {
     if !sound_setup::is_sound_head(book) {
@@ -28,8 +29,7 @@ fn is_set_up_sound(book: &[u8]) -> bool
 }
 
 // Are the request rows sound?
-fn are_requests_sound(book: &[u8]) -> bool
-    requires { length book.now ≡ book_length }
+fn are_requests_sound(book: &Book) -> bool
     ensures { result ≡ sound_requests (state book.now) }
 {
     if !sound_requests::are_sound_rows(book) {
@@ -39,8 +39,7 @@ fn are_requests_sound(book: &[u8]) -> bool
 }
 
 // Are the exposures and what they hold sound?
-fn are_exposures_sound(book: &[u8]) -> bool
-    requires { length book.now ≡ book_length }
+fn are_exposures_sound(book: &Book) -> bool
     ensures { result ≡ sound_exposures (state book.now) }
 {
     if !sound_exposures::are_sound_exposures(book) {
@@ -53,8 +52,7 @@ fn are_exposures_sound(book: &[u8]) -> bool
 }
 
 // Is a book of the right length sound?
-pub fn is_sound(book: &[u8]) -> bool
-    requires { length book.now ≡ book_length }
+pub fn is_sound(book: &Book) -> bool
     ensures { result ≡ sound (state book.now) }
 {
     if !is_set_up_sound(book) {

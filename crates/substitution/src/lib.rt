@@ -11,45 +11,46 @@ ghost use Rattle.securities.specs.Bounds.{Within};
 ghost use Rattle.marking_laws.specs.Recalled.{added, account_after, position_left};
 ghost use Rattle.substitution.specs.Recalling.{Recalling};
 
-use book::layout::{ACCOUNTS, EXPOSURE_AMOUNTS, EXPOSURE_GIVERS, POSITIONS, TODAY, TOLERANCE};
+use book::Book;
+use book::layout::Table;
 use picking::Outcome;
 use record_kinds::Fields;
 
 // The giver's account with the nominal that is recalled.
-fn account_after(book: &[u8], fields: &Fields) -> [u64; 64]
+fn account_after(book: &Book, fields: &Fields) -> [u64; 64]
     requires { Recalling book.now fields.now }
     ensures { result ≡ account_after (state book.now) fields.now }
 {
-    let giver = book::get(book, EXPOSURE_GIVERS, fields[1] as usize) as usize;
-    let mut account = book::row_at(book, ACCOUNTS, 64 * giver);
+    let giver = book::get(book, Table::ExposureGivers, fields[1] as usize) as usize;
+    let mut account = book::row_at(book, Table::Accounts, 64 * giver);
     let i = fields[2] as usize;
     account[i] = account[i] + fields[3];
     account
 }
 
 // The exposure's position without it.
-fn position_left(book: &[u8], fields: &Fields) -> [u64; 64]
+fn position_left(book: &Book, fields: &Fields) -> [u64; 64]
     requires { Recalling book.now fields.now }
     ensures { result ≡ position_left (state book.now) fields.now }
 {
-    let mut position = book::row_at(book, POSITIONS, 64 * fields[1] as usize);
+    let mut position = book::row_at(book, Table::Positions, 64 * fields[1] as usize);
     let i = fields[2] as usize;
     position[i] = position[i] - fields[3];
     position
 }
 
 // The substitutes: what is missing without the nominal, picked from the account with it, that security left out.
-pub fn substitutes(book: &[u8], columns: &[u64; 256], fields: &Fields) -> Outcome
+pub fn substitutes(book: &Book, columns: &[u64; 256], fields: &Fields) -> Outcome
     requires { Recalling book.now fields.now × (columns.now ≡ columns_of (state book.now)) }
     ensures { result ≡ substitutes (state book.now) fields.now }
 {
     let e = fields[1] as usize;
     let left = position_left(book, fields);
     let value = securities::worth_of(&left, columns);
-    let missing = bonds::missing_from(book::get(book, EXPOSURE_AMOUNTS, e), value);
+    let missing = bonds::missing_from(book::get(book, Table::ExposureAmounts, e), value);
     let account = account_after(book, fields);
     let basket = eligibility::basket_of(book, e);
-    let today = book::get(book, TODAY, 0);
+    let today = book::get(book, Table::Today, 0);
     let x = baskets::eligibility_on(basket, today, columns);
     picking::pick(&account, columns, x, fields[2], missing)
 }
@@ -60,16 +61,14 @@ fn add_nominals(nominals: &[u64; 64], by: &[u64; 64]) -> [u64; 64]
     ensures { result ≡ added nominals.now by.now }
 {
     let mut sums = [0u64; 64];
-    let mut i: usize = 0;
-    while i < 64 {
+    for i in 0..64 {
         sums[i] = nominals[i] + by[i];
-        i += 1;
     }
     sums
 }
 
 // The value of the exposure's position after the recall: of what is left with the substitutes.
-fn value_after(book: &[u8], columns: &[u64; 256], fields: &Fields) -> u64
+fn value_after(book: &Book, columns: &[u64; 256], fields: &Fields) -> u64
     requires { Recalling book.now fields.now × (columns.now ≡ columns_of (state book.now)) }
     ensures { (result ≡ value_of (substituted (state book.now) fields.now) (field fields.now 1)) × (result ≤ 9600000000000) }
 {
@@ -81,16 +80,16 @@ fn value_after(book: &[u8], columns: &[u64; 256], fields: &Fields) -> u64
 }
 
 // Is the value after the recall, with the tolerance, above the exposure, or no lower than before?
-pub fn is_accepted(book: &[u8], fields: &Fields) -> bool
+pub fn is_accepted(book: &Book, fields: &Fields) -> bool
     requires { Recalling book.now fields.now }
     ensures { result ≡ recall_accepted (state book.now) fields.now }
 {
     let columns = book::columns(book);
     let after = value_after(book, &columns, fields);
     let e = fields[1] as usize;
-    if book::get(book, EXPOSURE_AMOUNTS, e) < after + book::get(book, TOLERANCE, 0) {
+    if book::get(book, Table::ExposureAmounts, e) < after + book::get(book, Table::Tolerance, 0) {
         return true;
     }
-    let position = book::row_at(book, POSITIONS, 64 * e);
+    let position = book::row_at(book, Table::Positions, 64 * e);
     securities::worth_of(&position, &columns) <= after
 }

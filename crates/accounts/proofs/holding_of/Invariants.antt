@@ -9,6 +9,3 @@ use Rattle.accounts.proofs.holding_of.Given as goal
 
 abbrev pub invariant-loop-e : goal.invariant-loop-e
 invariant-loop-e l = (l.e ≤ 64) × (l.sum ≡ sum (position_from (state l.book) l.p l.i) l.e) × (l.sum ≤ 4294967295 * l.e)
-
-abbrev pub decreases-loop-e : goal.decreases-loop-e
-decreases-loop-e l = 64 - l.e

@@ -10,24 +10,24 @@ use Rattle.accounts.proofs.withdraw.Goals as goal
 
 pub overflow_mul-k : goal.overflow_mul-k
 overflow_mul-k c =
-    let fields = withdrawal_in c.args.fields.now c.requires.1 in
+    let fields = withdrawal_in c.args.fields.now c.requires.0 in
     search rules
 
 pub overflow_add-k : goal.overflow_add-k
 overflow_add-k c =
-    let fields = withdrawal_in c.args.fields.now c.requires.1 in
+    let fields = withdrawal_in c.args.fields.now c.requires.0 in
     search rules
 
 pub get-x-requires : goal.get-x-requires
 get-x-requires c =
-    let fields = withdrawal_in c.args.fields.now c.requires.1 in
+    let fields = withdrawal_in c.args.fields.now c.requires.0 in
     search rules
 
 pub set-requires : goal.set-requires
 set-requires c =
-    let fields = withdrawal_in c.args.fields.now c.requires.1 in
+    let fields = withdrawal_in c.args.fields.now c.requires.0 in
     let small =
-    account_small c.args.book.now c.requires.0 (λ i. (c.slice_known-1.given i).fits) (64 * get_or c.args.fields.now 0 0 + get_or c.args.fields.now 1 0)
+    account_small c.args.book.now (omega arith) (λ i. (c.slice_known-1.given i).fits) (64 * get_or c.args.fields.now 0 0 + get_or c.args.fields.now 1 0)
     (omega arith)
     in
     search rules

@@ -7,7 +7,7 @@ use Rattle.accounts.proofs.withdrawal_code.Goals as goal
 
 pub account_code-requires : goal.account_code-requires
 account_code-requires c =
-    let fields = withdrawal_in c.args.fields.now c.requires.1 in
+    let fields = withdrawal_in c.args.fields.now c.requires in
     search rules
 
 pub returns-then-account_code-ne0 : goal.returns-then-account_code-ne0
@@ -15,17 +15,17 @@ returns-then-account_code-ne0 c = search withdrawal_unknown
 
 pub overflow_mul-p : goal.overflow_mul-p
 overflow_mul-p c =
-    let fields = withdrawal_in c.args.fields.now c.requires.1 in
+    let fields = withdrawal_in c.args.fields.now c.requires in
     search rules
 
 pub overflow_add-p : goal.overflow_add-p
 overflow_add-p c =
-    let fields = withdrawal_in c.args.fields.now c.requires.1 in
+    let fields = withdrawal_in c.args.fields.now c.requires in
     search rules
 
 pub get-requires : goal.get-requires
 get-requires c =
-    let fields = withdrawal_in c.args.fields.now c.requires.1 in
+    let fields = withdrawal_in c.args.fields.now c.requires in
     search rules
 
 pub returns-then-get-fields : goal.returns-then-get-fields

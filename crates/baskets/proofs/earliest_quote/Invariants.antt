@@ -6,6 +6,3 @@ use Rattle.baskets.proofs.earliest_quote.Given as goal
 
 abbrev pub invariant-loop-i : goal.invariant-loop-i
 invariant-loop-i l = (l.i ≤ 64) × NoneBefore l.day l.i l.columns
-
-abbrev pub decreases-loop-i : goal.decreases-loop-i
-decreases-loop-i l = 64 - l.i

@@ -8,14 +8,14 @@ use Rattle.bonds.proofs.free_down.Goals as goal
 
 pub free-freed-requires : goal.free-freed-requires
 free-freed-requires c =
-    (rw c.requires.2 c.requires.1.bounded, rw c.row_at-position.ensures c.requires.1.within)
+    (rw c.requires.1 c.requires.0.bounded, rw c.row_at-position.ensures c.requires.0.within)
 
 pub give_back-requires : goal.give_back-requires
 give_back-requires c =
-    let freed = freed_for (state c.args.book.now) c.args.e c.args.amount c.requires.2 c.row_at-position.ensures c.free-freed.ensures in
-    (search rules, rw freed (free_gives_back (state c.args.book.now) c.args.e c.args.amount c.requires.1))
+    let freed = freed_for (state c.args.book.now) c.args.e c.args.amount c.requires.1 c.row_at-position.ensures c.free-freed.ensures in
+    (search rules, rw freed (free_gives_back (state c.args.book.now) c.args.e c.args.amount c.requires.0))
 
 pub returns : goal.returns
 returns c =
-    let freed = freed_for (state c.args.book.now) c.args.e c.args.amount c.requires.2 c.row_at-position.ensures c.free-freed.ensures in
+    let freed = freed_for (state c.args.book.now) c.args.e c.args.amount c.requires.1 c.row_at-position.ensures c.free-freed.ensures in
     rw (c.give_back.ensures, freed)

@@ -4,10 +4,8 @@ use mathlib.Core.Path.{◌≡◌}
 use Prim.Native.Nat.{◌+◌, ◌-◌, ◌≤◌}
 use Rattle.laws.specs.Filled.{filled}
 use Rattle.book.specs.State.{state}
+use Rattle.book.specs.Tables.{number}
 use Rattle.book.proofs.row_at.Given as goal
 
 abbrev pub invariant-loop-i : goal.invariant-loop-i
-invariant-loop-i l = (l.i ≤ 64) × (l.row ≡ filled (λ k. state l.book l.f (l.start + k)) 64 l.i)
-
-abbrev pub decreases-loop-i : goal.decreases-loop-i
-decreases-loop-i l = 64 - l.i
+invariant-loop-i l = (l.i ≤ 64) × (l.row ≡ filled (λ k. state l.book (number l.table) (l.start + k)) 64 l.i)

@@ -14,12 +14,12 @@ use Rattle.day_change.proofs.begin_day.Goals as goal
 pub next_open_day-next-requires : goal.next_open_day-next-requires
 next_open_day-next-requires c =
     let before = state c.args.book.now in
-    omega (arith, c.get-today.ensures, today_le before (sound_facts before c.requires.1))
+    omega (arith, c.get-today.ensures, today_le before (sound_facts before c.requires.0))
 
 pub set-requires : goal.set-requires
 set-requires c =
     let day = c.next_open_day-next.ensures ∙ ap next_open_day c.get-today.ensures in
-    (search rules, omega arith, omega arith, omega (arith, day, next_day_within (state c.args.book.now) c.requires.2))
+    (search rules, omega arith, omega arith, omega (arith, day, next_day_within (state c.args.book.now) c.requires.1))
 
 pub returns : goal.returns
 unfolding on_next_day

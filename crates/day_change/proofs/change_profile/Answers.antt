@@ -7,7 +7,7 @@ use Rattle.day_change.proofs.change_profile.Goals as goal
 
 pub clear-requires : goal.clear-requires
 clear-requires c =
-    (search rules, in_profiles c.args.p c.requires.1)
+    (search rules, in_profiles c.args.p c.requires)
 
 pub returns-then-get-ne0 : goal.returns-then-get-ne0
 returns-then-get-ne0 c =

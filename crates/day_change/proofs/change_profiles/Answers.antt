@@ -14,16 +14,10 @@ use Rattle.day_change.proofs.change_profiles.Goals as goal
 pub loop-p-init : goal.loop-p-init
 loop-p-init c =
     let first = state c.args.book.now in
-    (omega arith, c.requires, sym (no_turn (profile_waits first) change_takes_effect first))
+    (omega arith, (omega arith), sym (no_turn (profile_waits first) change_takes_effect first))
 
 pub change_profile-requires : goal.change_profile-requires
 change_profile-requires c = (c.loop-p.invariant.1, omega arith)
-
-pub overflow_add-p : goal.overflow_add-p
-overflow_add-p c = omega arith
-
-pub loop-p-smaller : goal.loop-p-smaller
-loop-p-smaller c = omega arith
 
 pub loop-p-preserved : goal.loop-p-preserved
 loop-p-preserved c =

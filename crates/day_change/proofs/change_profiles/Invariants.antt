@@ -11,6 +11,3 @@ use Rattle.day_change.proofs.change_profiles.Given as goal
 
 abbrev pub invariant-loop-p : goal.invariant-loop-p
 invariant-loop-p l = (l.p ≤ 32) × (length l.book ≡ book_length) × (state l.book ≡ on_each (profile_waits (state l.initial.book)) change_takes_effect l.p (state l.initial.book))
-
-abbrev pub decreases-loop-p : goal.decreases-loop-p
-decreases-loop-p l = 32 - l.p

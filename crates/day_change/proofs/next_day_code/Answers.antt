@@ -9,7 +9,7 @@ use Rattle.day_change.proofs.next_day_code.Goals as goal
 
 pub next_open_day-requires : goal.next_open_day-requires
 next_open_day-requires c =
-    omega (arith, c.get-today.ensures, today_le (state c.args.book.now) (sound_facts (state c.args.book.now) c.requires.1))
+    omega (arith, c.get-today.ensures, today_le (state c.args.book.now) (sound_facts (state c.args.book.now) c.requires))
 
 pub returns-then-next_open_day-gt-LAST_DAY : goal.returns-then-next_open_day-gt-LAST_DAY
 returns-then-next_open_day-gt-LAST_DAY c = search no_next_day

@@ -21,30 +21,24 @@ pub loop-e-init : goal.loop-e-init
 unfolding sum
 loop-e-init c =
     let first = state c.args.book.now in
-    (omega arith, c.requires.0, refl, sym (no_turn (is_exposure_closed first) exposure_closed first))
+    (omega arith, (omega arith), refl, sym (no_turn (is_exposure_closed first) exposure_closed first))
 
 pub close_exposure-closed-requires : goal.close_exposure-closed-requires
 close_exposure-closed-requires c =
     let first = state c.args.book.now in
-    let good : Good first = record { facts = sound_facts first c.requires.1; fits = state_fits c.args.book.now c.requires.0 (λ j. (c.slice_known-1.given j).fits) } in
+    let good : Good first = record { facts = sound_facts first c.requires; fits = state_fits c.args.book.now (omega arith) (λ j. (c.slice_known-1.given j).fits) } in
     (c.loop-e.invariant.1, omega arith, rw c.loop-e.invariant.3 (sound_closable _ (closing_turned first good c.loop-e.e c.loop-e.invariant.0).good.facts))
 
 pub overflow_add-closed : goal.overflow_add-closed
 overflow_add-closed c =
     let first = state c.args.book.now in
-    let closable = sound_closable first (sound_facts first c.requires.1) in
+    let closable = sound_closable first (sound_facts first c.requires) in
     omega (
       arith,
       sum_le (amount_closed first) 10000000000000 c.loop-e.e (λ d m. amount_le first d (omega arith) closable),
       amount_before first c.loop-e.e c.loop-e.invariant.3 c.close_exposure-closed.ensures.0,
       amount_le first c.loop-e.e (omega arith) closable,
     )
-
-pub overflow_add-e : goal.overflow_add-e
-overflow_add-e c = omega arith
-
-pub loop-e-smaller : goal.loop-e-smaller
-loop-e-smaller c = omega arith
 
 pub loop-e-preserved : goal.loop-e-preserved
 loop-e-preserved c =

@@ -15,6 +15,3 @@ invariant-loop-e l = (l.e ≤ 64)
     × (length l.book ≡ book_length)
     × (l.closed ≡ sum (amount_closed (state l.initial.book)) l.e)
     × (state l.book ≡ on_each (is_exposure_closed (state l.initial.book)) exposure_closed l.e (state l.initial.book))
-
-abbrev pub decreases-loop-e : goal.decreases-loop-e
-decreases-loop-e l = 64 - l.e

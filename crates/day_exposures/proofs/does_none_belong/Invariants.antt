@@ -9,6 +9,3 @@ use Rattle.day_exposures.proofs.does_none_belong.Given as goal
 
 abbrev pub invariant-loop-i : goal.invariant-loop-i
 invariant-loop-i l = (l.i ≤ 256) × Rest (is_not_of (state l.book) l.e) 256 l.i (all (is_not_of (state l.book) l.e) 256 0)
-
-abbrev pub decreases-loop-i : goal.decreases-loop-i
-decreases-loop-i l = 256 - l.i

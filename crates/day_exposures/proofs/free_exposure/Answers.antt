@@ -1,5 +1,6 @@
 -- `day_exposures::free_exposure` meets its contract.
 -- Assumes nothing.
+use native.Mathlib.Omega.{arith}
 use mathlib.Core.Path.{◌∙◌}
 use Rattle.book.specs.State.{state}
 use Rattle.rules.specs.DayChange.{is_idle, exposure_freed}
@@ -9,7 +10,7 @@ use Rattle.day_exposures.proofs.free_exposure.Goals as goal
 
 pub clear-requires : goal.clear-requires
 clear-requires c =
-    (c.requires.0, in_exposures c.args.e c.requires.1)
+    ((omega arith), in_exposures c.args.e c.requires.0)
 
 pub returns-then-is_idle : goal.returns-then-is_idle
 returns-then-is_idle c =

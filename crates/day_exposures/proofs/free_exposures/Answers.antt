@@ -12,23 +12,17 @@ use borrow.Author.Rules.{rules}
 use Rattle.day_exposures.proofs.free_exposures.Goals as goal
 
 pub mark_rows-requires : goal.mark_rows-requires
-mark_rows-requires c = (c.requires, refl)
+mark_rows-requires c = ((omega arith), refl)
 
 pub loop-e-init : goal.loop-e-init
 loop-e-init c =
     let first = state c.args.book.now in
-    (omega arith, c.requires, sym (no_turn (is_idle first) exposure_freed first), c.mark_rows.ensures)
+    (omega arith, (omega arith), sym (no_turn (is_idle first) exposure_freed first), c.mark_rows.ensures)
 
 pub free_exposure-requires : goal.free_exposure-requires
 free_exposure-requires c =
     let first = state c.args.book.now in
     (c.loop-e.invariant.1, omega arith, rw c.loop-e.invariant.2 (later_marked first _ c.loop-e.e (omega arith) c.loop-e.invariant.3))
-
-pub overflow_add-e : goal.overflow_add-e
-overflow_add-e c = omega arith
-
-pub loop-e-smaller : goal.loop-e-smaller
-loop-e-smaller c = omega arith
 
 pub loop-e-preserved : goal.loop-e-preserved
 loop-e-preserved c =

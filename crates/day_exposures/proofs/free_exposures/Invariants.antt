@@ -14,6 +14,3 @@ invariant-loop-e l = (l.e ≤ 64)
     × (length l.book ≡ book_length)
     × (state l.book ≡ on_each (is_idle (state l.initial.book)) exposure_freed l.e (state l.initial.book))
     × Marked (state l.initial.book) l.marks 256
-
-abbrev pub decreases-loop-e : goal.decreases-loop-e
-decreases-loop-e l = 64 - l.e

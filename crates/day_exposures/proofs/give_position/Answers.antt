@@ -13,12 +13,12 @@ use Rattle.day_exposures.proofs.give_position.Goals as goal
 
 pub get-owner-requires : goal.get-owner-requires
 get-owner-requires c =
-    (c.requires.0, omega arith, c.requires.1.below)
+    ((omega arith), omega arith, c.requires.below)
 
 pub loop-i-init : goal.loop-i-init
 loop-i-init c =
     let first = state c.args.book.now in
-    (omega arith, c.requires.0, sym (no_turn (is_held c.args.e first) (security_back c.get-owner.result c.args.e) first))
+    (omega arith, (omega arith), sym (no_turn (is_held c.args.e first) (security_back c.get-owner.result c.args.e) first))
 
 pub give_security-requires : goal.give_security-requires
 give_security-requires c =
@@ -26,18 +26,12 @@ give_security-requires c =
     let i = c.loop-i.i in
     let m : i < 64 = omega arith in (
       c.loop-i.invariant.1,
-      omega (arith, c.get-owner.ensures, c.requires.1.giver),
-      c.requires.1.below,
+      omega (arith, c.get-owner.ensures, c.requires.giver),
+      c.requires.below,
       m,
       rw (c.loop-i.invariant.2, account_ahead c.get-owner.result c.args.e first i, position_ahead c.get-owner.result c.args.e first i, c.get-owner.ensures)
-          (c.requires.1.room i m),
+          (c.requires.room i m),
     )
-
-pub overflow_add-i : goal.overflow_add-i
-overflow_add-i c = omega arith
-
-pub loop-i-smaller : goal.loop-i-smaller
-loop-i-smaller c = omega arith
 
 pub loop-i-preserved : goal.loop-i-preserved
 loop-i-preserved c =

@@ -11,6 +11,3 @@ use Rattle.day_exposures.proofs.give_position.Given as goal
 
 abbrev pub invariant-loop-i : goal.invariant-loop-i
 invariant-loop-i l = (l.i ≤ 64) × (length l.book ≡ book_length) × (state l.book ≡ on_each (is_held l.e (state l.initial.book)) (security_back l.owner l.e) l.i (state l.initial.book))
-
-abbrev pub decreases-loop-i : goal.decreases-loop-i
-decreases-loop-i l = 64 - l.i

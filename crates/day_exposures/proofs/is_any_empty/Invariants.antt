@@ -5,6 +5,3 @@ use Rattle.day_exposures.proofs.is_any_empty.Given as goal
 
 abbrev pub invariant-loop-e : goal.invariant-loop-e
 invariant-loop-e l = l.e ≤ 64
-
-abbrev pub decreases-loop-e : goal.decreases-loop-e
-decreases-loop-e l = 64 - l.e

@@ -12,21 +12,15 @@ use Rattle.day_rows.proofs.clear.Goals as goal
 
 pub loop-k-init : goal.loop-k-init
 loop-k-init c =
-    (omega arith, c.requires.0, sym (cleared_none (state c.args.book.now) c.args.from c.args.i))
+    (omega arith, (omega arith), sym (cleared_none (state c.args.book.now) c.args.from c.args.i))
 
 pub overflow_add-from : goal.overflow_add-from
-overflow_add-from c = omega (arith, c.requires.1.tables)
+overflow_add-from c = omega (arith, c.requires.tables)
 
 pub set-requires : goal.set-requires
 set-requires c =
     let f = c.args.from + c.loop-k.k in
-    (c.loop-k.invariant.1, omega (arith, c.requires.1.tables), c.requires.1.row f (omega arith) (omega arith), one-le-pow (width_of f) 256 (omega arith))
-
-pub overflow_add-k : goal.overflow_add-k
-overflow_add-k c = omega (arith, c.requires.1.tables)
-
-pub loop-k-smaller : goal.loop-k-smaller
-loop-k-smaller c = omega arith
+    (c.loop-k.invariant.1, omega (arith, c.requires.tables), c.requires.row f (omega arith) (omega arith), one-le-pow (width_of f) 256 (omega arith))
 
 pub loop-k-preserved : goal.loop-k-preserved
 loop-k-preserved c =

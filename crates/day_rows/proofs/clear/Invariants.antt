@@ -10,6 +10,3 @@ use Rattle.day_rows.proofs.clear.Given as goal
 
 abbrev pub invariant-loop-k : goal.invariant-loop-k
 invariant-loop-k l = (l.k ≤ l.n) × (length l.book ≡ book_length) × (state l.book ≡ cleared (state l.initial.book) l.k l.from l.i)
-
-abbrev pub decreases-loop-k : goal.decreases-loop-k
-decreases-loop-k l = l.n - l.k

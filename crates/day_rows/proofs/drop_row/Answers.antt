@@ -1,5 +1,6 @@
 -- `day_rows::drop_row` meets its contract.
 -- Assumes nothing.
+use native.Mathlib.Omega.{arith}
 use mathlib.Core.Path.{sym, ◌∙◌}
 use Rattle.book.specs.State.{state}
 use Rattle.rules.specs.DayChange.{row_dropped}
@@ -10,7 +11,7 @@ use Rattle.day_rows.proofs.drop_row.Goals as goal
 
 pub clear-requires : goal.clear-requires
 clear-requires c =
-    (c.requires.0, in_requests c.args.i c.requires.1)
+    ((omega arith), in_requests c.args.i c.requires.0)
 
 pub returns-then-is_dropped : goal.returns-then-is_dropped
 returns-then-is_dropped c =

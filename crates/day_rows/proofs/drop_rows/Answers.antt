@@ -18,12 +18,12 @@ use Rattle.day_rows.proofs.drop_rows.Goals as goal
 pub loop-i-init : goal.loop-i-init
 loop-i-init c =
     let t = drops c.args.pass (state c.args.book.now) in
-    (omega arith, c.requires.0, zero-add (count t 256 0), sym (no_turn t row_dropped (state c.args.book.now)))
+    (omega arith, (omega arith), zero-add (count t 256 0), sym (no_turn t row_dropped (state c.args.book.now)))
 
 pub drop_row-dropped-requires : goal.drop_row-dropped-requires
 drop_row-dropped-requires c =
     let first = state c.args.book.now in
-    let named = later_named (drops c.args.pass first) first c.loop-i.i (sound_named first (sound_facts first c.requires.1) c.loop-i.i (omega arith)) in
+    let named = later_named (drops c.args.pass first) first c.loop-i.i (sound_named first (sound_facts first c.requires) c.loop-i.i (omega arith)) in
     (c.loop-i.invariant.1, omega arith, rw c.loop-i.invariant.3 named)
 
 pub overflow_add-dropped : goal.overflow_add-dropped
@@ -36,12 +36,6 @@ overflow_add-dropped c =
       loop_counts (drops a.pass) row_dropped (rows_apart a.pass) first 256 c.loop-i.i c.loop-i.dropped (omega arith) c.loop-i.invariant.3 r.0 c.loop-i.invariant.2,
       count_le (drops a.pass first) 256 0,
     )
-
-pub overflow_add-i : goal.overflow_add-i
-overflow_add-i c = omega arith
-
-pub loop-i-smaller : goal.loop-i-smaller
-loop-i-smaller c = omega arith
 
 pub loop-i-preserved : goal.loop-i-preserved
 loop-i-preserved c =

@@ -15,6 +15,3 @@ invariant-loop-i l = (l.i ≤ 256)
     × (length l.book ≡ book_length)
     × (l.dropped + count (drops l.pass (state l.initial.book)) (256 - l.i) l.i ≡ count (drops l.pass (state l.initial.book)) 256 0)
     × (state l.book ≡ on_each (drops l.pass (state l.initial.book)) row_dropped l.i (state l.initial.book))
-
-abbrev pub decreases-loop-i : goal.decreases-loop-i
-decreases-loop-i l = 256 - l.i

@@ -7,6 +7,3 @@ use Rattle.due_pairs.proofs.collect.Given as goal
 
 abbrev pub invariant-loop-i : goal.invariant-loop-i
 invariant-loop-i l = (l.i ≤ 256) × Collected (state l.book) l.kind l.i l.keys l.n
-
-abbrev pub decreases-loop-i : goal.decreases-loop-i
-decreases-loop-i l = 256 - l.i

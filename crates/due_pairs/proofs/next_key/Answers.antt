@@ -14,12 +14,6 @@ offset_bounds-keys-j c = omega arith
 pub bounds-keys-j : goal.bounds-keys-j
 bounds-keys-j c = omega arith
 
-pub overflow_add-j : goal.overflow_add-j
-overflow_add-j c = omega arith
-
-pub loop-j-smaller : goal.loop-j-smaller
-loop-j-smaller c = omega arith
-
 pub loop-j-preserved : goal.loop-j-preserved
 loop-j-preserved c =
     (omega arith, least_next c.args.bound c.loop-j.j c.args.keys.now (omega arith) c.loop-j.invariant.1 c.lesser_from-least.ensures)

@@ -8,6 +8,3 @@ use Rattle.due_pairs.proofs.next_key.Given as goal
 
 abbrev pub invariant-loop-j : goal.invariant-loop-j
 invariant-loop-j l = (l.j ≤ l.n) × (l.least ≡ least_from l.bound no_key (take l.j l.keys))
-
-abbrev pub decreases-loop-j : goal.decreases-loop-j
-decreases-loop-j l = l.n - l.j

@@ -12,8 +12,8 @@ use Rattle.due_pairs.proofs.order_of.Goals.{After-shared_slice_known-1}
 small : (k : After-shared_slice_known-1) → Dated (state k.args.book.now) k.args.i
 small k =
     let s = k.before in
-    let fits = state_fits s.args.book.now s.requires.0 (λ j. (k.shared_slice_known-1.given j).fits) in
-    record { day = fits.fits settlements s.args.i s.requires.1; number = fits.fits numbers s.args.i s.requires.1 }
+    let fits = state_fits s.args.book.now (omega arith) (λ j. (k.shared_slice_known-1.given j).fits) in
+    record { day = fits.fits settlements s.args.i s.requires; number = fits.fits numbers s.args.i s.requires }
 
 pub overflow_mul-result : goal.overflow_mul-result
 overflow_mul-result c = let dated = small (goal.at.overflow_mul-result c).After-shared_slice_known-1 in omega (arith, c.get.ensures)

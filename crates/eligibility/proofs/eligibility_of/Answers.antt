@@ -6,4 +6,4 @@ use Rattle.eligibility.proofs.eligibility_of.Goals as goal
 
 pub returns : goal.returns
 returns c =
-    fresh_for (state c.args.book.now) c.args.e c.requires.3 c.requires.2 c.get-b.ensures c.get-map.ensures
+    fresh_for (state c.args.book.now) c.args.e c.requires.2 c.requires.1 c.get-b.ensures c.get-map.ensures

@@ -11,7 +11,7 @@ use Rattle.eligibility.proofs.fresh_since.Goals.{After-get-age}
 -- an age is an index
 in-range : (c : After-get-age) → c.get-age.result < 256
 in-range c =
-    omega (arith, c.get-age.ensures, c.requires.1.each c.loop-b.b (omega arith))
+    omega (arith, c.get-age.ensures, c.requires.0.each c.loop-b.b (omega arith))
 
 pub loop-b-init : goal.loop-b-init
 loop-b-init c = (omega arith, filled_first _ 16)
@@ -29,4 +29,4 @@ loop-b-preserved c =
 pub returns : goal.returns
 returns c =
     let e : c.loop-b.b ≡ 16 = omega arith in
-    baskets_fresh c.requires.2 c.get.ensures c.greatest_age-most.ensures.0 c.fresh_days-days.ensures (rw e at c.loop-b.invariant.1)
+    baskets_fresh c.requires.1 c.get.ensures c.greatest_age-most.ensures.0 c.fresh_days-days.ensures (rw e at c.loop-b.invariant.1)

@@ -10,6 +10,3 @@ use Rattle.eligibility.proofs.fresh_since.Given as goal
 
 abbrev pub invariant-loop-b : goal.invariant-loop-b
 invariant-loop-b l = (l.b ≤ 16) × (l.since ≡ filled (λ j. get_or l.days (state l.book greatest_ages j) 0) 16 l.b)
-
-abbrev pub decreases-loop-b : goal.decreases-loop-b
-decreases-loop-b l = 16 - l.b

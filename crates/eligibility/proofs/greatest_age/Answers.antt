@@ -11,7 +11,7 @@ loop-b-init c = (omega arith, aged_first _ _, omega arith)
 pub loop-b-preserved : goal.loop-b-preserved
 loop-b-preserved c =
     let more = c.larger-most.ensures in
-    let small = c.requires.1.each c.loop-b.b (omega arith) in
+    let small = c.requires.each c.loop-b.b (omega arith) in
     (omega arith, aged_next c.loop-b.invariant.1 c.get.ensures more.0 more.1, more.2 c.loop-b.invariant.2 (omega (arith, c.get.ensures, small)))
 
 pub returns : goal.returns

@@ -7,6 +7,3 @@ use Rattle.eligibility.proofs.greatest_age.Given as goal
 
 abbrev pub invariant-loop-b : goal.invariant-loop-b
 invariant-loop-b l = (l.b ≤ 16) × Aged l.most l.b (state l.book) × (l.most ≤ 255)
-
-abbrev pub decreases-loop-b : goal.decreases-loop-b
-decreases-loop-b l = 16 - l.b

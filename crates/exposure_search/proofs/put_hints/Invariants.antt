@@ -8,6 +8,3 @@ use Rattle.exposure_search.proofs.put_hints.Given as goal
 
 abbrev pub invariant-loop-e : goal.invariant-loop-e
 invariant-loop-e l = (l.e ≤ 64) × (l.hints ≡ with_hints (state l.book) l.initial.hints l.e)
-
-abbrev pub decreases-loop-e : goal.decreases-loop-e
-decreases-loop-e l = 64 - l.e

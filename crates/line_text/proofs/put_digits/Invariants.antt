@@ -8,6 +8,3 @@ use Rattle.line_text.proofs.put_digits.Given as goal
 
 abbrev pub invariant-loop-i : goal.invariant-loop-i
 invariant-loop-i l = (l.i ≤ l.count) × (l.count ≤ 20) × (length l.digits ≡ 20) × (length l.lines ≡ length l.initial.lines) × (l.lines ≡ with_text l.initial.lines l.at (take l.i l.digits))
-
-abbrev pub decreases-loop-i : goal.decreases-loop-i
-decreases-loop-i l = l.count - l.i

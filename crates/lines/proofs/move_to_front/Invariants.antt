@@ -6,6 +6,3 @@ use Rattle.lines.proofs.move_to_front.Given as goal
 
 abbrev pub invariant-loop-i : goal.invariant-loop-i
 invariant-loop-i l = (l.i ≤ l.count) × Moved l.initial.bytes l.from l.bytes l.i
-
-abbrev pub decreases-loop-i : goal.decreases-loop-i
-decreases-loop-i l = l.count - l.i

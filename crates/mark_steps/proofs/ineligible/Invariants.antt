@@ -8,6 +8,3 @@ use Rattle.mark_steps.proofs.ineligible.Given as goal
 
 abbrev pub invariant-loop-i : goal.invariant-loop-i
 invariant-loop-i l = (l.i ≤ 64) × (l.nominals ≡ filled (ineligible_in l.position l.columns l.x) 64 l.i)
-
-abbrev pub decreases-loop-i : goal.decreases-loop-i
-decreases-loop-i l = 64 - l.i

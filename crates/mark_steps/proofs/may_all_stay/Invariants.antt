@@ -10,6 +10,3 @@ use Rattle.mark_steps.proofs.may_all_stay.Given as goal
 
 abbrev pub invariant-loop-i : goal.invariant-loop-i
 invariant-loop-i l = (l.i ≤ 64) × Rest (may_stay (position_of (state l.book) l.e) l.columns l.x) 64 l.i (all (may_stay (position_of (state l.book) l.e) l.columns l.x) 64 0)
-
-abbrev pub decreases-loop-i : goal.decreases-loop-i
-decreases-loop-i l = 64 - l.i

@@ -26,6 +26,3 @@ invariant-loop-e l =
     × (l.count ≡ sum (λ j. or_flag (get_or l.gave j 0) (gives (state l.initial.book) j)) l.e)
     × (l.count ≤ l.e)
     × (l.missing ≡ filled (missing_of (after (state l.initial.book))) 64 l.e)
-
-abbrev pub decreases-loop-e : goal.decreases-loop-e
-decreases-loop-e l = 64 - l.e

@@ -11,6 +11,3 @@ use Rattle.marking.proofs.give_all_ineligible.Given as goal
 
 abbrev pub invariant-loop-e : goal.invariant-loop-e
 invariant-loop-e l = (l.e ≤ 64) × On ineligible_back l.columns l.initial.book l.book l.e × (l.gave ≡ filled (λ j. bit (moved (state l.initial.book) (on_exposures ineligible_back 64 (state l.initial.book)) j)) 64 l.e)
-
-abbrev pub decreases-loop-e : goal.decreases-loop-e
-decreases-loop-e l = 64 - l.e

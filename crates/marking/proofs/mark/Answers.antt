@@ -1,5 +1,6 @@
 -- `marking::mark` meets its contract.
 -- Assumes nothing.
+use native.Mathlib.Omega.{arith}
 use Rattle.eligibility.proofs.Fresh.{sound_aged}
 use Rattle.book.specs.State.{state}
 use Rattle.facts.proofs.Written.{sound_facts}
@@ -10,11 +11,11 @@ use Rattle.marking.proofs.mark.Goals as goal
 
 pub fresh_since-since-requires : goal.fresh_since-since-requires
 fresh_since-since-requires c =
-    (c.requires.0, sound_aged (state c.args.book.now) (sound_facts (state c.args.book.now) c.requires.1), c.columns-columns.ensures)
+    ((omega arith), sound_aged (state c.args.book.now) (sound_facts (state c.args.book.now) c.requires), c.columns-columns.ensures)
 
 pub give_all_ineligible-gave-requires : goal.give_all_ineligible-gave-requires
 give_all_ineligible-gave-requires c =
-    (record { long = c.requires.0; sound_book = c.requires.1; securities = c.columns-columns.ensures }, c.fresh_since-since.ensures)
+    (record { long = (omega arith); sound_book = c.requires; securities = c.columns-columns.ensures }, c.fresh_since-since.ensures)
 
 pub free_all-freed-requires : goal.free_all-freed-requires
 free_all-freed-requires c =

@@ -25,6 +25,3 @@ invariant-loop-e l =
     × (l.count ≤ l.e)
     × (l.after ≡ sum (missing_of (after (state l.initial.book))) l.e)
     × (l.after ≤ 10000000000000 * l.e)
-
-abbrev pub decreases-loop-e : goal.decreases-loop-e
-decreases-loop-e l = 64 - l.e

@@ -12,11 +12,11 @@ overflow_sub-j c = omega (arith, c.get.ensures)
 
 pub overflow_add-other : goal.overflow_add-other
 overflow_add-other c =
-    omega (arith, partner_room (state c.args.book.now) c.args.i c.args.x c.requires.1 c.get.ensures c.get-other.ensures)
+    omega (arith, partner_room (state c.args.book.now) c.args.i c.args.x c.requires.0 c.get.ensures c.get-other.ensures)
 
 pub set-requires-2 : goal.set-requires-2
 set-requires-2 c =
-    let room = partner_room (state c.args.book.now) c.args.i c.args.x c.requires.1 c.get.ensures c.get-other.ensures in
+    let room = partner_room (state c.args.book.now) c.args.i c.args.x c.requires.0 c.get.ensures c.get-other.ensures in
     (search rules, omega arith, omega (arith, c.get.ensures), omega arith)
 
 pub returns : goal.returns

@@ -20,16 +20,16 @@ use Rattle.pair_settlement.proofs.settle_fop.Goals.{After-amount_for-x, After-ex
 
 -- the exposure that the code finds is one of the 64, used, and at most 10^13
 target_below : (c : After-exposure_of_fop-e) → c.exposure_of_fop-e.result < 64
-target_below c = rw c.exposure_of_fop-e.ensures (fop_below c.requires.1 c.requires.2)
+target_below c = rw c.exposure_of_fop-e.ensures (fop_below c.requires.0 c.requires.1)
 
 target-used : (c : After-exposure_of_fop-e) → state c.args.book.now in_use c.exposure_of_fop-e.result ≡ 1
 target-used c =
-    rw c.exposure_of_fop-e.ensures (exposure_used (state c.args.book.now) c.args.i (fop_below c.requires.1 c.requires.2))
+    rw c.exposure_of_fop-e.ensures (exposure_used (state c.args.book.now) c.args.i (fop_below c.requires.0 c.requires.1))
 
 target-le : (c : After-get-exposure) → c.get-exposure.result ≤ 10000000000000
 target-le c =
-    rw c.get-exposure.ensures (exposure_le c.requires.1 c.exposure_of_fop-e.result (rw c.exposure_of_fop-e.ensures (fop_below c.requires.1 c.requires.2))
-    (rw c.exposure_of_fop-e.ensures (exposure_used (state c.args.book.now) c.args.i (fop_below c.requires.1 c.requires.2))))
+    rw c.get-exposure.ensures (exposure_le c.requires.0 c.exposure_of_fop-e.result (rw c.exposure_of_fop-e.ensures (fop_below c.requires.0 c.requires.1))
+    (rw c.exposure_of_fop-e.ensures (exposure_used (state c.args.book.now) c.args.i (fop_below c.requires.0 c.requires.1))))
 
 -- what the code settles is the definition's amount, and at most the rest
 settles : (c : After-amount_for-x) → c.amount_for-x.result ≡ fop_amount (state c.args.book.now) c.args.i
@@ -45,11 +45,11 @@ get-exposure-requires c = (search rules, omega arith, target_below c)
 
 pub rest_of-rest-requires : goal.rest_of-rest-requires
 rest_of-rest-requires c =
-    (search rules, search rules, (pair_fields c.requires.1 c.requires.2).settled)
+    (search rules, search rules, (pair_fields c.requires.0 c.requires.1).settled)
 
 pub overflow_add-exposure : goal.overflow_add-exposure
 overflow_add-exposure c =
-    omega (arith, target-le (goal.at.overflow_add-exposure c).After-get-exposure, c.rest_of-rest.ensures, rest_le c.requires.1 c.requires.2)
+    omega (arith, target-le (goal.at.overflow_add-exposure c).After-get-exposure, c.rest_of-rest.ensures, rest_le c.requires.0 c.requires.1)
 
 pub returns-then-exposure-rest-gt-GREATEST_EXPOSURE : goal.returns-then-exposure-rest-gt-GREATEST_EXPOSURE
 returns-then-exposure-rest-gt-GREATEST_EXPOSURE c =
@@ -59,7 +59,7 @@ returns-then-exposure-rest-gt-GREATEST_EXPOSURE c =
 
 pub pick_for-outcome-requires : goal.pick_for-outcome-requires
 pick_for-outcome-requires c =
-    (search rules, good_pickable (state c.args.book.now) c.exposure_of_fop-e.result c.requires.1 (target_below (goal.at.pick_for-outcome-requires c).After-exposure_of_fop-e) (target-used (goal.at.pick_for-outcome-requires c).After-exposure_of_fop-e), c.requires.3, c.requires.4)
+    (search rules, good_pickable (state c.args.book.now) c.exposure_of_fop-e.result c.requires.0 (target_below (goal.at.pick_for-outcome-requires c).After-exposure_of_fop-e) (target-used (goal.at.pick_for-outcome-requires c).After-exposure_of_fop-e), c.requires.2, c.requires.3)
 
 pub amount_for-x-requires : goal.amount_for-x-requires
 amount_for-x-requires c =
@@ -77,14 +77,14 @@ overflow_add-exposure-2 c =
 
 pub note_settled-requires : goal.note_settled-requires
 note_settled-requires c =
-    (search rules, settleable c.requires.1 c.requires.2 c.amount_for-x.result (omega (arith, settles-le (goal.at.note_settled-requires c).After-amount_for-x, c.rest_of-rest.ensures)), target_below (goal.at.note_settled-requires c).After-exposure_of_fop-e)
+    (search rules, settleable c.requires.0 c.requires.1 c.amount_for-x.result (omega (arith, settles-le (goal.at.note_settled-requires c).After-amount_for-x, c.rest_of-rest.ensures)), target_below (goal.at.note_settled-requires c).After-exposure_of_fop-e)
 
 pub pledge-requires : goal.pledge-requires
 pledge-requires c =
     let st = state c.args.book.now in
     let target = c.exposure_of_fop-e.result in
     let x = c.amount_for-x.result in
-    let picked : Pledging st target c.pick_for-outcome.result.nominals = rw c.pick_for-outcome.ensures (pick_pledges st target c.requires.1 (target_below (goal.at.pledge-requires c).After-exposure_of_fop-e) (target-used (goal.at.pledge-requires c).After-exposure_of_fop-e) (eligible_for st target) c.rest_of-rest.result) in
+    let picked : Pledging st target c.pick_for-outcome.result.nominals = rw c.pick_for-outcome.ensures (pick_pledges st target c.requires.0 (target_below (goal.at.pledge-requires c).After-exposure_of_fop-e) (target-used (goal.at.pledge-requires c).After-exposure_of_fop-e) (eligible_for st target) c.rest_of-rest.result) in
     (search rules, rw c.note_settled.ensures (pledging_noted st c.args.i x target _ picked))
 
 pub returns : goal.returns

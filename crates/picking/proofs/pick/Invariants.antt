@@ -9,6 +9,3 @@ use Rattle.picking.proofs.pick.Given as goal
 
 abbrev pub invariant-loop-i : goal.invariant-loop-i
 invariant-loop-i l = (l.i ≤ 64) × (◌≡◌ {A = Outcome} (record { nominals = l.nominals; value = l.value; count = l.count }) (picked_below l.columns l.account (but_not l.omitted (eligible_by l.x l.columns)) l.amount l.i))
-
-abbrev pub decreases-loop-i : goal.decreases-loop-i
-decreases-loop-i l = 64 - l.i

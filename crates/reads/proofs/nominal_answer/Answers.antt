@@ -17,13 +17,13 @@ pub returns-then-get-eq0 : goal.returns-then-get-eq0
 returns-then-get-eq0 c = search security_unknown
 
 pub overflow_mul-at : goal.overflow_mul-at
-overflow_mul-at c = let near = c.requires.2 c.if-code-ne0.false in search rules
+overflow_mul-at c = let near = c.requires c.if-code-ne0.false in search rules
 
 pub overflow_add-at : goal.overflow_add-at
-overflow_add-at c = let near = c.requires.2 c.if-code-ne0.false in search rules
+overflow_add-at c = let near = c.requires c.if-code-ne0.false in search rules
 
 pub get-requires-2 : goal.get-requires-2
-get-requires-2 c = let near = c.requires.2 c.if-code-ne0.false in search rules
+get-requires-2 c = let near = c.requires c.if-code-ne0.false in search rules
 
 pub returns : goal.returns
 returns c = search nominal_read

@@ -10,7 +10,7 @@ returns-then-partner-eq0 c = search partner_none
 
 pub get-requires : goal.get-requires
 get-requires c =
-    let near = partner_near (state c.args.book.now) c.args.i c.requires.1 c.requires.2 c.get-partner.ensures c.if-partner-eq0.false in
+    let near = partner_near (state c.args.book.now) c.args.i c.requires.0 c.requires.1 c.get-partner.ensures c.if-partner-eq0.false in
     search rules
 
 pub returns : goal.returns

@@ -9,6 +9,3 @@ use Rattle.reads.proofs.request_answer.Given as goal
 
 abbrev pub invariant-loop-k : goal.invariant-loop-k
 invariant-loop-k l = (l.k ≤ 15) × (l.numbers ≡ filled (request_number (state l.book) l.i) 15 l.k)
-
-abbrev pub decreases-loop-k : goal.decreases-loop-k
-decreases-loop-k l = 15 - l.k

@@ -12,8 +12,8 @@ returns-then-f-eq-PARTNERS c = search number_partner
 
 pub get-requires : goal.get-requires
 get-requires c =
-    let rows = number_rows c.args.k c.requires.3 in
-    (c.requires.0, omega arith, rw rows c.requires.2)
+    let rows = number_rows c.args.k c.requires.2 in
+    ((omega arith), omega arith, rw rows c.requires.1)
 
 pub returns : goal.returns
 returns c = search number_field

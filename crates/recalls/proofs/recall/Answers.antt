@@ -1,5 +1,6 @@
 -- `recalls::recall` meets its contract.
 -- Assumes nothing.
+use native.Mathlib.Omega.{arith}
 use Rattle.book.specs.State.{state}
 use Rattle.marking_laws.proofs.Ranges.{recall_in}
 use Rattle.recalls.proofs.Returns.{accepted_recalling, one_gives, found_pledges, recall_whole}
@@ -8,26 +9,26 @@ use Rattle.recalls.proofs.recall.Goals as goal
 
 pub substitutes-found-requires : goal.substitutes-found-requires
 substitutes-found-requires c =
-    (accepted_recalling c.args.book.now c.args.fields.now c.requires.0 c.requires.1 c.requires.2 c.requires.3, c.columns-columns.ensures)
+    (accepted_recalling c.args.book.now c.args.fields.now (omega arith) c.requires.0 c.requires.1 c.requires.2, c.columns-columns.ensures)
 
 pub offset_bounds-one-i : goal.offset_bounds-one-i
 offset_bounds-one-i c =
-    let fields = recall_in c.args.fields.now c.requires.1 in
+    let fields = recall_in c.args.fields.now c.requires.0 in
     search rules
 
 pub bounds-one-i : goal.bounds-one-i
 bounds-one-i c =
-    let fields = recall_in c.args.fields.now c.requires.1 in
+    let fields = recall_in c.args.fields.now c.requires.0 in
     search rules
 
 pub give_back-requires : goal.give_back-requires
 give_back-requires c =
-    (c.requires.0, one_gives (accepted_recalling c.args.book.now c.args.fields.now c.requires.0 c.requires.1 c.requires.2 c.requires.3) (λ i. (c.slice_known-1.given i).fits))
+    ((omega arith), one_gives (accepted_recalling c.args.book.now c.args.fields.now (omega arith) c.requires.0 c.requires.1 c.requires.2) (λ i. (c.slice_known-1.given i).fits))
 
 pub pledge-requires : goal.pledge-requires
 pledge-requires c = (
   search rules,
-  found_pledges (accepted_recalling c.args.book.now c.args.fields.now c.requires.0 c.requires.1 c.requires.2 c.requires.3) (λ i. (c.slice_known-1.given i).fits) c.give_back.ensures c.substitutes-found.ensures,
+  found_pledges (accepted_recalling c.args.book.now c.args.fields.now (omega arith) c.requires.0 c.requires.1 c.requires.2) (λ i. (c.slice_known-1.given i).fits) c.give_back.ensures c.substitutes-found.ensures,
 )
 
 pub returns : goal.returns

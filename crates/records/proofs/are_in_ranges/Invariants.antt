@@ -9,6 +9,3 @@ use Rattle.records.proofs.are_in_ranges.Given as goal
 
 abbrev pub invariant-loop-j : goal.invariant-loop-j
 invariant-loop-j l = (l.j ≤ places) × Rest (legal_at l.k l.fields) places l.j (are_legal l.k l.fields)
-
-abbrev pub decreases-loop-j : goal.decreases-loop-j
-decreases-loop-j l = places - l.j

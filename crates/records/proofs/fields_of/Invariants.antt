@@ -9,6 +9,3 @@ use Rattle.records.proofs.fields_of.Given as goal
 
 abbrev pub invariant-loop-j : goal.invariant-loop-j
 invariant-loop-j l = (l.j ≤ places) × (l.at ≡ offset_of l.k l.j) × (l.fields ≡ filled (field_in l.bytes l.k) places l.j)
-
-abbrev pub decreases-loop-j : goal.decreases-loop-j
-decreases-loop-j l = places - l.j

@@ -10,6 +10,3 @@ use Rattle.records.proofs.put_fields.Given as goal
 
 abbrev pub invariant-loop-j : goal.invariant-loop-j
 invariant-loop-j l = (l.j ≤ places) × (l.at ≡ offset_of l.k l.j) × (length l.part ≡ length_of l.k) × (l.part ≡ record_bytes_to l.k l.fields l.j ++ drop l.at l.initial.part)
-
-abbrev pub decreases-loop-j : goal.decreases-loop-j
-decreases-loop-j l = places - l.j

@@ -10,6 +10,3 @@ use Rattle.request_search.proofs.earliest_equal.Given as goal
 
 abbrev pub invariant-loop-i : goal.invariant-loop-i
 invariant-loop-i l = (l.i ≤ 256) × (l.best ≤ 256) × (l.best ≡ least_by (is_equal (state l.book) l.kind l.fields) (state l.book numbers) 256 l.i)
-
-abbrev pub decreases-loop-i : goal.decreases-loop-i
-decreases-loop-i l = 256 - l.i

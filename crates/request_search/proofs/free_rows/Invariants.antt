@@ -11,6 +11,3 @@ use Rattle.request_search.proofs.free_rows.Given as goal
 
 abbrev pub invariant-loop-i : goal.invariant-loop-i
 invariant-loop-i l = (l.i ≤ 256) × (l.rows ≤ l.i) × (l.rows + count (λ j. eqb (state l.book numbers j) 0) (256 - l.i) l.i ≡ rows_free (state l.book))
-
-abbrev pub decreases-loop-i : goal.decreases-loop-i
-decreases-loop-i l = 256 - l.i

@@ -9,7 +9,7 @@ use Rattle.requests.proofs.cancel_code.Goals as goal
 
 pub get-requires : goal.get-requires
 get-requires c =
-    let owner = owner_in c.args.fields.now c.requires.1 in
+    let owner = owner_in c.args.fields.now c.requires.0 in
     search rules
 
 pub returns-then-get-eq0 : goal.returns-then-get-eq0

@@ -22,7 +22,7 @@ join_exposure-requires-2 c = (
   search rules,
   search rules,
   equal_room (state c.args.book.now) c.args.kind c.args.fields.now c.does_taker_follow.ensures c.if-does_taker_follow.false
-      c.earliest_equal-j.ensures c.if-j-ge256.false c.enter_with_equal.ensures c.requires.2,
+      c.earliest_equal-j.ensures c.if-j-ge256.false c.enter_with_equal.ensures c.requires.1,
 )
 
 pub returns : goal.returns

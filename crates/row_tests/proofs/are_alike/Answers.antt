@@ -9,18 +9,15 @@ pub loop-f-init : goal.loop-f-init
 loop-f-init c = (omega arith, omega arith, search loop_starts)
 
 pub overflow_add-from : goal.overflow_add-from
-overflow_add-from c = omega (arith, c.requires.1.tables)
+overflow_add-from c = omega (arith, c.requires.0.tables)
 
 pub is_same-requires : goal.is_same-requires
 is_same-requires c =
     let f = c.loop-f.f in
-    (c.requires.0, omega (arith, c.requires.1.tables), c.requires.1.row f (omega arith) (omega arith), c.requires.2.row f (omega arith) (omega arith))
+    ((omega arith), omega (arith, c.requires.0.tables), c.requires.0.row f (omega arith) (omega arith), c.requires.1.row f (omega arith) (omega arith))
 
 pub returns-then-not-is_same : goal.returns-then-not-is_same
 returns-then-not-is_same c = search loop_fails
-
-pub overflow_add-f : goal.overflow_add-f
-overflow_add-f c = omega (arith, c.requires.1.tables)
 
 pub loop-f-preserved : goal.loop-f-preserved
 loop-f-preserved c = (omega arith, omega arith, search loop_passes)

@@ -9,6 +9,3 @@ use Rattle.row_tests.proofs.are_alike.Given as goal
 
 abbrev pub invariant-loop-f : goal.invariant-loop-f
 invariant-loop-f l = (l.from ≤ l.f) × (l.f ≤ l.from + l.n) × Rest (λ g. same (state l.book) g l.i l.j) (l.from + l.n) l.f (alike (state l.book) l.n l.from l.i l.j)
-
-abbrev pub decreases-loop-f : goal.decreases-loop-f
-decreases-loop-f l = l.from + l.n - l.f

@@ -9,18 +9,15 @@ pub loop-f-init : goal.loop-f-init
 loop-f-init c = (omega arith, omega arith, search loop_starts)
 
 pub overflow_add-from : goal.overflow_add-from
-overflow_add-from c = omega (arith, c.requires.1.tables)
+overflow_add-from c = omega (arith, c.requires.tables)
 
 pub is_zero-requires : goal.is_zero-requires
 is_zero-requires c =
     let f = c.loop-f.f in
-    (c.requires.0, omega (arith, c.requires.1.tables), c.requires.1.row f (omega arith) (omega arith))
+    ((omega arith), omega (arith, c.requires.tables), c.requires.row f (omega arith) (omega arith))
 
 pub returns-then-not-is_zero : goal.returns-then-not-is_zero
 returns-then-not-is_zero c = search loop_fails
-
-pub overflow_add-f : goal.overflow_add-f
-overflow_add-f c = omega (arith, c.requires.1.tables)
 
 pub loop-f-preserved : goal.loop-f-preserved
 loop-f-preserved c = (omega arith, omega arith, search loop_passes)

@@ -9,6 +9,3 @@ use Rattle.row_tests.proofs.is_blank.Given as goal
 
 abbrev pub invariant-loop-f : goal.invariant-loop-f
 invariant-loop-f l = (l.from ≤ l.f) × (l.f ≤ l.from + l.n) × Rest (λ g. eqb (state l.book g l.i) 0) (l.from + l.n) l.f (blank (state l.book) l.n l.from l.i)
-
-abbrev pub decreases-loop-f : goal.decreases-loop-f
-decreases-loop-f l = l.from + l.n - l.f

@@ -8,6 +8,3 @@ use Rattle.securities.proofs.are_nominals.Given as goal
 
 abbrev pub invariant-loop-i : goal.invariant-loop-i
 invariant-loop-i l = (l.i ≤ 64) × Rest (legal_nominal_at l.nominals) 64 l.i (all (legal_nominal_at l.nominals) 64 0)
-
-abbrev pub decreases-loop-i : goal.decreases-loop-i
-decreases-loop-i l = 64 - l.i

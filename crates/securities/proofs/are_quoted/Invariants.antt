@@ -8,6 +8,3 @@ use Rattle.securities.proofs.are_quoted.Given as goal
 
 abbrev pub invariant-loop-i : goal.invariant-loop-i
 invariant-loop-i l = (l.i ≤ 64) × Rest (quoted_at l.today l.columns) 64 l.i (all (quoted_at l.today l.columns) 64 0)
-
-abbrev pub decreases-loop-i : goal.decreases-loop-i
-decreases-loop-i l = 64 - l.i

@@ -8,6 +8,3 @@ use Rattle.securities.proofs.worth_of.Given as goal
 
 abbrev pub invariant-loop-i : goal.invariant-loop-i
 invariant-loop-i l = (l.i ≤ 64) × (l.cents ≡ sum (value_at l.columns (nominals_of l.nominals)) l.i)
-
-abbrev pub decreases-loop-i : goal.decreases-loop-i
-decreases-loop-i l = 64 - l.i

@@ -15,11 +15,11 @@ use Rattle.settlement.proofs.settle.Goals.{After-slice_known-1}
 -- the book at the start is good
 good : (c : After-slice_known-1) → Good (state c.args.book.now)
 good c =
-    record { facts = sound_facts (state c.args.book.now) c.requires.1; fits = state_fits c.args.book.now c.requires.0 (λ j. (c.slice_known-1.given j).fits) }
+    record { facts = sound_facts (state c.args.book.now) c.requires; fits = state_fits c.args.book.now (omega arith) (λ j. (c.slice_known-1.given j).fits) }
 
 pub fresh_since-since-requires : goal.fresh_since-since-requires
 fresh_since-since-requires c =
-    (search rules, sound_aged (state c.args.book.now) (sound_facts (state c.args.book.now) c.requires.1), c.columns-columns.ensures)
+    (search rules, sound_aged (state c.args.book.now) (sound_facts (state c.args.book.now) c.requires), c.columns-columns.ensures)
 
 pub settle_pairs-returns-requires : goal.settle_pairs-returns-requires
 settle_pairs-returns-requires c =

@@ -15,11 +15,11 @@ use Rattle.settlement.proofs.settle_pair.Goals.{After-settle_fop-x, After-settle
 -- no pair settles more than 10^12 cents
 return-small : (c : After-settle_return-x) → c.settle_return-x.result ≤ 1000000000000
 return-small c =
-    omega (arith, c.settle_return-x.ensures.0, rest_le c.requires.1 c.requires.2)
+    omega (arith, c.settle_return-x.ensures.0, rest_le c.requires.0 c.requires.1)
 
 fop-small : (c : After-settle_fop-x) → c.settle_fop-x.result ≤ 1000000000000
 fop-small c =
-    omega (arith, c.settle_fop-x.ensures.0, rest_le c.requires.1 c.requires.2, fop_within (state c.args.book.now) c.args.i)
+    omega (arith, c.settle_fop-x.ensures.0, rest_le c.requires.0 c.requires.1, fop_within (state c.args.book.now) c.args.i)
 
 pub returns-then-x-eq0 : goal.returns-then-x-eq0
 returns-then-x-eq0 c =
@@ -35,7 +35,7 @@ returns-then-kind-eq7 c =
 
 pub settle_fop-x-requires : goal.settle_fop-x-requires
 settle_fop-x-requires c =
-    (search rules, c.requires.1, fop_kind_lem c.requires.1 c.requires.2 c.if-kind-eq7.false, c.requires.3, c.requires.5)
+    (search rules, c.requires.0, fop_kind_lem c.requires.0 c.requires.1 c.if-kind-eq7.false, c.requires.2, c.requires.4)
 
 pub returns-then-x-eq0-2 : goal.returns-then-x-eq0-2
 returns-then-x-eq0-2 c =

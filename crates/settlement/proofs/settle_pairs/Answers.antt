@@ -14,7 +14,7 @@ collect-count-requires c = (search rules, search rules, length-replicate {A = �
 
 pub loop-n-init : goal.loop-n-init
 loop-n-init c =
-    (omega arith, search rules, (_, underway_starts _ _ _ c.requires.1), omega arith)
+    (omega arith, search rules, (_, underway_starts _ _ _ c.requires.0), omega arith)
 
 pub next_key-key-requires : goal.next_key-key-requires
 next_key-key-requires c = let collected = c.collect-count.ensures in (collected.few, collected.long)
@@ -22,17 +22,17 @@ next_key-key-requires c = let collected = c.collect-count.ensures in (collected.
 pub returns-then-key : goal.returns-then-key
 returns-then-key c =
     let i = c.loop-n.invariant in
-    underway_done c.requires.1 c.collect-count.ensures c.next_key-key.ensures i.0 c.if-key.true i.2.0 i.2.1
+    underway_done c.requires.0 c.collect-count.ensures c.next_key-key.ensures i.0 c.if-key.true i.2.0 i.2.1
 
 pub settle_pair-total-requires : goal.settle_pair-total-requires
 settle_pair-total-requires c =
     let i = c.loop-n.invariant in
     let w = i.2.1 in
-    (search rules, w.good, next_pair c.requires.1 c.collect-count.ensures c.next_key-key.ensures c.if-key.false i.2.0 w, c.requires.2 ∙ sym w.prices.columns, within_room i.0 c.requires.3 w.within, fresh_same w.prices c.requires.4)
+    (search rules, w.good, next_pair c.requires.0 c.collect-count.ensures c.next_key-key.ensures c.if-key.false i.2.0 w, c.requires.1 ∙ sym w.prices.columns, within_room i.0 c.requires.2 w.within, fresh_same w.prices c.requires.3)
 
 pub loop-n-preserved : goal.loop-n-preserved
 loop-n-preserved c =
-    let g = c.requires.1 in
+    let g = c.requires.0 in
     let collected = c.collect-count.ensures in
     let key = c.next_key-key.ensures in
     let w = c.loop-n.invariant.2 in

@@ -11,6 +11,3 @@ use Rattle.settlement.proofs.settle_pairs.Given as goal
 
 abbrev pub invariant-loop-n : goal.invariant-loop-n
 invariant-loop-n l = (l.n ≤ 256) × (length l.book ≡ book_length) × ((rows : List ℕ) × Underway l.kind (state l.initial.book) l.initial.total l.n l.last (state l.book) l.total rows) × (l.last < 72057594037927935)
-
-abbrev pub decreases-loop-n : goal.decreases-loop-n
-decreases-loop-n l = 256 - l.n

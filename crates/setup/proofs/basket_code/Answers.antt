@@ -7,7 +7,7 @@ use Rattle.setup.proofs.basket_code.Goals as goal
 
 pub get-requires : goal.get-requires
 get-requires c =
-    let fields = basket_in_lem c.args.fields.now c.requires.1 in
+    let fields = basket_in_lem c.args.fields.now c.requires in
     search rules
 
 pub returns-then-get-eq0 : goal.returns-then-get-eq0

@@ -12,9 +12,6 @@ loop-i-init c = (refl, omega arith, λ j h. absurd (omega arith))
 pub bounds-book-i : goal.bounds-book-i
 bounds-book-i c = omega arith
 
-pub loop-i-smaller : goal.loop-i-smaller
-loop-i-smaller c = omega arith
-
 pub loop-i-preserved : goal.loop-i-preserved
 loop-i-preserved c =
     let l = c.loop-i in

@@ -8,6 +8,3 @@ use Rattle.setup.proofs.clear.Given as goal
 
 abbrev pub invariant-loop-i : goal.invariant-loop-i
 invariant-loop-i l = (length l.book ≡ length l.initial.book) × (l.i ≤ length l.initial.book) × ZeroTo l.book l.i
-
-abbrev pub decreases-loop-i : goal.decreases-loop-i
-decreases-loop-i l = length l.initial.book - l.i

@@ -8,47 +8,47 @@ use Rattle.setup.proofs.enrol.Goals as goal
 
 pub get-requires : goal.get-requires
 get-requires c =
-    let fields = participant_in_lem c.args.fields.now c.requires.1 in
+    let fields = participant_in_lem c.args.fields.now c.requires in
     search rules
 
 pub overflow_add-fields : goal.overflow_add-fields
 overflow_add-fields c =
-    let fields = participant_in_lem c.args.fields.now c.requires.1 in
+    let fields = participant_in_lem c.args.fields.now c.requires in
     search rules
 
 pub set-requires : goal.set-requires
 set-requires c =
-    let fields = participant_in_lem c.args.fields.now c.requires.1 in
+    let fields = participant_in_lem c.args.fields.now c.requires in
     search rules
 
 pub set-requires-then-get-eq0 : goal.set-requires-then-get-eq0
 set-requires-then-get-eq0 c =
-    let fields = participant_in_lem c.args.fields.now c.requires.1 in
+    let fields = participant_in_lem c.args.fields.now c.requires in
     search rules
 
 pub set-requires-then-get-eq0-2 : goal.set-requires-then-get-eq0-2
 set-requires-then-get-eq0-2 c =
-    let fields = participant_in_lem c.args.fields.now c.requires.1 in
+    let fields = participant_in_lem c.args.fields.now c.requires in
     search rules
 
 pub overflow_add-fields-else-get-eq0 : goal.overflow_add-fields-else-get-eq0
 overflow_add-fields-else-get-eq0 c =
-    let fields = participant_in_lem c.args.fields.now c.requires.1 in
+    let fields = participant_in_lem c.args.fields.now c.requires in
     search rules
 
 pub set-requires-else-get-eq0 : goal.set-requires-else-get-eq0
 set-requires-else-get-eq0 c =
-    let fields = participant_in_lem c.args.fields.now c.requires.1 in
+    let fields = participant_in_lem c.args.fields.now c.requires in
     search rules
 
 pub set-requires-else-get-eq0-2 : goal.set-requires-else-get-eq0-2
 set-requires-else-get-eq0-2 c =
-    let fields = participant_in_lem c.args.fields.now c.requires.1 in
+    let fields = participant_in_lem c.args.fields.now c.requires in
     search rules
 
 pub set-requires-else-get-eq0-3 : goal.set-requires-else-get-eq0-3
 set-requires-else-get-eq0-3 c =
-    let fields = participant_in_lem c.args.fields.now c.requires.1 in
+    let fields = participant_in_lem c.args.fields.now c.requires in
     search rules
 
 pub returns-then-get-eq0 : goal.returns-then-get-eq0

@@ -7,12 +7,12 @@ use Rattle.setup.proofs.make_basket.Goals as goal
 
 pub set-requires : goal.set-requires
 set-requires c =
-    let fields = basket_in_lem c.args.fields.now c.requires.1 in
+    let fields = basket_in_lem c.args.fields.now c.requires in
     search rules
 
 pub set-requires-2 : goal.set-requires-2
 set-requires-2 c =
-    let fields = basket_in_lem c.args.fields.now c.requires.1 in
+    let fields = basket_in_lem c.args.fields.now c.requires in
     search rules
 
 pub returns : goal.returns

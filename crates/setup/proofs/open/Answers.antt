@@ -9,12 +9,12 @@ use Rattle.setup.proofs.open.Goals as goal
 
 pub set-requires : goal.set-requires
 set-requires c =
-    let fields = opening_in c.args.fields.now c.requires.1 in
+    let fields = opening_in c.args.fields.now c.requires in
     search rules
 
 pub set-requires-2 : goal.set-requires-2
 set-requires-2 c =
-    let fields = opening_in c.args.fields.now c.requires.1 in
+    let fields = opening_in c.args.fields.now c.requires in
     search rules
 
 pub returns : goal.returns

@@ -7,22 +7,22 @@ use Rattle.setup.proofs.price.Goals as goal
 
 pub set-requires : goal.set-requires
 set-requires c =
-    let fields = price_in_lem c.args.fields.now c.requires.1 in
+    let fields = price_in_lem c.args.fields.now c.requires in
     search rules
 
 pub set-requires-2 : goal.set-requires-2
 set-requires-2 c =
-    let fields = price_in_lem c.args.fields.now c.requires.1 in
+    let fields = price_in_lem c.args.fields.now c.requires in
     search rules
 
 pub set-requires-3 : goal.set-requires-3
 set-requires-3 c =
-    let fields = price_in_lem c.args.fields.now c.requires.1 in
+    let fields = price_in_lem c.args.fields.now c.requires in
     search rules
 
 pub set-requires-4 : goal.set-requires-4
 set-requires-4 c =
-    let fields = price_in_lem c.args.fields.now c.requires.1 in
+    let fields = price_in_lem c.args.fields.now c.requires in
     search rules
 
 pub returns : goal.returns

@@ -17,7 +17,7 @@ lot_kept c =
 
 pub get-lot-requires : goal.get-lot-requires
 get-lot-requires c =
-    let fields = price_in_lem c.args.fields.now c.requires.1 in
+    let fields = price_in_lem c.args.fields.now c.requires in
     search rules
 
 pub returns-then-lot-fields : goal.returns-then-lot-fields

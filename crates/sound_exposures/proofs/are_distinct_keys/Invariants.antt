@@ -10,6 +10,3 @@ use Rattle.sound_exposures.proofs.are_distinct_keys.Given as goal
 
 abbrev pub invariant-loop-e : goal.invariant-loop-e
 invariant-loop-e l = (l.e ≤ 64) × Rest (distinct_key (state l.book)) 64 l.e (all (distinct_key (state l.book)) 64 0) × KeysMarked (state l.book) l.marks l.e
-
-abbrev pub decreases-loop-e : goal.decreases-loop-e
-decreases-loop-e l = 64 - l.e

@@ -10,6 +10,3 @@ use Rattle.sound_exposures.proofs.are_sound_exposures.Given as goal
 
 abbrev pub invariant-loop-e : goal.invariant-loop-e
 invariant-loop-e l = (l.e ≤ 64) × Rest (sound_exposure (state l.book)) 64 l.e (all (sound_exposure (state l.book)) 64 0) × OpenDays l.days
-
-abbrev pub decreases-loop-e : goal.decreases-loop-e
-decreases-loop-e l = 64 - l.e

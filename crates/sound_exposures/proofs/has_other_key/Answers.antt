@@ -9,7 +9,7 @@ returns-then-get-ne1 c = search other_unused
 
 pub are_alike-requires : goal.are_alike-requires
 are_alike-requires c =
-    (c.requires.0, in_exposures 4 c.args.e (omega arith) c.requires.1, in_exposures 4 c.args.d (omega arith) c.requires.2)
+    ((omega arith), in_exposures 4 c.args.e (omega arith) c.requires.0, in_exposures 4 c.args.d (omega arith) c.requires.1)
 
 pub returns : goal.returns
 returns c = search by_key

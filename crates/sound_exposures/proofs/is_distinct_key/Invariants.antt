@@ -8,6 +8,3 @@ use Rattle.sound_exposures.proofs.is_distinct_key.Given as goal
 
 abbrev pub invariant-loop-d : goal.invariant-loop-d
 invariant-loop-d l = (l.d ≤ l.e) × Rest (other_key (state l.book) l.e) l.e l.d (distinct_key (state l.book) l.e)
-
-abbrev pub decreases-loop-d : goal.decreases-loop-d
-decreases-loop-d l = l.e - l.d

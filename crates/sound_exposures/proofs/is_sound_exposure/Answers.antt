@@ -5,7 +5,7 @@ use native.Mathlib.Omega.{arith}
 use Rattle.sound_exposures.proofs.is_sound_exposure.Goals as goal
 
 pub is_blank-requires : goal.is_blank-requires
-is_blank-requires c = (c.requires.0, in_exposures 5 c.args.e (omega arith) c.requires.1)
+is_blank-requires c = ((omega arith), in_exposures 5 c.args.e (omega arith) c.requires.0)
 
 pub returns-then-used-eq0 : goal.returns-then-used-eq0
 returns-then-used-eq0 c = search unused

@@ -10,6 +10,3 @@ use Rattle.sound_numbers.proofs.are_distinct_numbers.Given as goal
 
 abbrev pub invariant-loop-i : goal.invariant-loop-i
 invariant-loop-i l = (l.i ≤ 256) × Rest (distinct_number (state l.book)) 256 l.i (all (distinct_number (state l.book)) 256 0) × Marked (state l.book) l.marks l.i
-
-abbrev pub decreases-loop-i : goal.decreases-loop-i
-decreases-loop-i l = 256 - l.i

@@ -8,6 +8,3 @@ use Rattle.sound_numbers.proofs.is_distinct_number.Given as goal
 
 abbrev pub invariant-loop-j : goal.invariant-loop-j
 invariant-loop-j l = (l.j ≤ l.i) × Rest (differs (state l.book) l.i) l.i l.j (distinct_number (state l.book) l.i)
-
-abbrev pub decreases-loop-j : goal.decreases-loop-j
-decreases-loop-j l = l.i - l.j

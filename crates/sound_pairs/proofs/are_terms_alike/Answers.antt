@@ -6,4 +6,4 @@ use Rattle.sound_pairs.proofs.are_terms_alike.Goals as goal
 
 pub returns : goal.returns
 returns c =
-    by_terms (state c.args.book.now) c.args.q c.args.j c.requires.1 c.get-giver.ensures c.get-taker.ensures c.get-object.ensures c.get-amount.ensures c.get-settlement.ensures c.get-closing.ensures
+    by_terms (state c.args.book.now) c.args.q c.args.j c.requires.0 c.get-giver.ensures c.get-taker.ensures c.get-object.ensures c.get-amount.ensures c.get-settlement.ensures c.get-closing.ensures

@@ -12,6 +12,3 @@ use Rattle.sound_requests.proofs.are_each_sound.Given as goal
 
 abbrev pub invariant-loop-i : goal.invariant-loop-i
 invariant-loop-i l = (l.end ≡ 16 * l.k + 16) × (l.end ≤ 256) × (l.i ≤ l.end) × Rest (sound_row (state l.book)) l.end l.i (all (sound_row (state l.book)) 16 (16 * l.k)) × OpenDays l.days × Passed (state l.book) l.i
-
-abbrev pub decreases-loop-i : goal.decreases-loop-i
-decreases-loop-i l = l.end - l.i

@@ -11,6 +11,3 @@ use Rattle.sound_requests.proofs.are_sound_rows.Given as goal
 
 abbrev pub invariant-loop-k : goal.invariant-loop-k
 invariant-loop-k l = (l.k ≤ 16) × Rest (sound_row (state l.book)) 256 (16 * l.k) (all (sound_row (state l.book)) 256 0) × OpenDays l.days × Passed (state l.book) (16 * l.k)
-
-abbrev pub decreases-loop-k : goal.decreases-loop-k
-decreases-loop-k l = 16 - l.k

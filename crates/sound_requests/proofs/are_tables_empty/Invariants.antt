@@ -9,6 +9,3 @@ use Rattle.sound_requests.proofs.are_tables_empty.Given as goal
 
 abbrev pub invariant-loop-f : goal.invariant-loop-f
 invariant-loop-f l = (l.from ≤ l.f) × (l.f ≤ l.from + l.n) × Rest (λ g. empty_rows (state l.book) g (16 * l.k) 16) (l.from + l.n) l.f (empty_tables (state l.book) l.n l.from l.k)
-
-abbrev pub decreases-loop-f : goal.decreases-loop-f
-decreases-loop-f l = l.from + l.n - l.f

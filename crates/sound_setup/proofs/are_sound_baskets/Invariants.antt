@@ -9,6 +9,3 @@ use Rattle.sound_setup.proofs.are_sound_baskets.Given as goal
 
 abbrev pub invariant-loop-b : goal.invariant-loop-b
 invariant-loop-b l = (l.b ≤ 16) × Rest (sound_basket (state l.book)) 16 l.b (all (sound_basket (state l.book)) 16 0)
-
-abbrev pub decreases-loop-b : goal.decreases-loop-b
-decreases-loop-b l = 16 - l.b

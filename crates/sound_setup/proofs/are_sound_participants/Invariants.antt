@@ -9,6 +9,3 @@ use Rattle.sound_setup.proofs.are_sound_participants.Given as goal
 
 abbrev pub invariant-loop-p : goal.invariant-loop-p
 invariant-loop-p l = (l.p ≤ 32) × Rest (sound_participant (state l.book)) 32 l.p (all (sound_participant (state l.book)) 32 0)
-
-abbrev pub decreases-loop-p : goal.decreases-loop-p
-decreases-loop-p l = 32 - l.p

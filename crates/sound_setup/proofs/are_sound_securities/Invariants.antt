@@ -10,6 +10,3 @@ use Rattle.sound_setup.proofs.are_sound_securities.Given as goal
 
 abbrev pub invariant-loop-i : goal.invariant-loop-i
 invariant-loop-i l = (l.i ≤ 64) × Rest (sound_security (state l.book)) 64 l.i (all (sound_security (state l.book)) 64 0) × OpenDays l.days
-
-abbrev pub decreases-loop-i : goal.decreases-loop-i
-decreases-loop-i l = 64 - l.i

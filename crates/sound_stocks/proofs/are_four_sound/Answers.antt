@@ -6,13 +6,13 @@ use borrow.Author.Rules.{rules}
 use Rattle.sound_stocks.proofs.are_four_sound.Goals as goal
 
 pub overflow_mul-e : goal.overflow_mul-e
-overflow_mul-e c = omega (arith, c.requires.2.own.below)
+overflow_mul-e c = omega (arith, c.requires.1.own.below)
 
 pub overflow_mul-k : goal.overflow_mul-k
 overflow_mul-k c = omega arith
 
 pub overflow_add-e : goal.overflow_add-e
-overflow_add-e c = omega (arith, c.requires.2.own.below)
+overflow_add-e c = omega (arith, c.requires.1.own.below)
 
 pub returns-then-are_rows_empty : goal.returns-then-are_rows_empty
 returns-then-are_rows_empty c = search four_nothing

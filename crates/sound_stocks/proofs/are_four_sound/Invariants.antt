@@ -8,6 +8,3 @@ use Rattle.sound_stocks.proofs.are_four_sound.Given as goal
 
 abbrev pub invariant-loop-i : goal.invariant-loop-i
 invariant-loop-i l = (l.end ≡ 4 * l.k + 4) × (l.k < 16) × (l.i ≤ l.end) × Adding (state l.book) l.p l.e l.i l.held
-
-abbrev pub decreases-loop-i : goal.decreases-loop-i
-decreases-loop-i l = l.end - l.i

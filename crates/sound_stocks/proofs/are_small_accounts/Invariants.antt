@@ -9,6 +9,3 @@ use Rattle.sound_stocks.proofs.are_small_accounts.Given as goal
 
 abbrev pub invariant-loop-p : goal.invariant-loop-p
 invariant-loop-p l = (l.p ≤ 32) × Rest (small_accounts (state l.book)) 32 l.p (all (small_accounts (state l.book)) 32 0)
-
-abbrev pub decreases-loop-p : goal.decreases-loop-p
-decreases-loop-p l = 32 - l.p

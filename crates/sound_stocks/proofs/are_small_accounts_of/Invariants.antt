@@ -8,6 +8,3 @@ use Rattle.sound_stocks.proofs.are_small_accounts_of.Given as goal
 
 abbrev pub invariant-loop-i : goal.invariant-loop-i
 invariant-loop-i l = (l.i ≤ 64) × Rest (small_account (state l.book) l.p) 64 l.i (small_accounts (state l.book) l.p)
-
-abbrev pub decreases-loop-i : goal.decreases-loop-i
-decreases-loop-i l = 64 - l.i

@@ -7,6 +7,3 @@ use Rattle.sound_stocks.proofs.are_sound_nominals.Given as goal
 
 abbrev pub invariant-loop-k : goal.invariant-loop-k
 invariant-loop-k l = (l.k ≤ 16) × Adding (state l.book) l.p l.e (4 * l.k) l.held
-
-abbrev pub decreases-loop-k : goal.decreases-loop-k
-decreases-loop-k l = 16 - l.k

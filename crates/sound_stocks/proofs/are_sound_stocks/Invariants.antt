@@ -11,6 +11,3 @@ use Rattle.sound_stocks.proofs.are_sound_stocks.Given as goal
 
 abbrev pub invariant-loop-e : goal.invariant-loop-e
 invariant-loop-e l = (l.e ≤ 64) × (all (sound_exposure (state l.book)) 64 0 ≡ true) × Held (state l.book) l.e l.held
-
-abbrev pub decreases-loop-e : goal.decreases-loop-e
-decreases-loop-e l = 64 - l.e

@@ -8,6 +8,3 @@ use Rattle.substitution.proofs.add_nominals.Given as goal
 
 abbrev pub invariant-loop-i : goal.invariant-loop-i
 invariant-loop-i l = (l.i ≤ 64) × (l.sums ≡ filled (λ j. get_or l.nominals j 0 + get_or l.by j 0) 64 l.i)
-
-abbrev pub decreases-loop-i : goal.decreases-loop-i
-decreases-loop-i l = 64 - l.i

@@ -7,7 +7,7 @@ use Rattle.recalls.proofs.codes.holds_code.Goals as goal
 
 pub get-requires : goal.get-requires
 get-requires c =
-    let fields = recall_in c.args.fields.now c.requires.1 in
+    let fields = recall_in c.args.fields.now c.requires in
     search rules
 
 pub returns-then-get-ne1 : goal.returns-then-get-ne1
@@ -15,7 +15,7 @@ returns-then-get-ne1 c = search no_exposure
 
 pub get-requires-2 : goal.get-requires-2
 get-requires-2 c =
-    let fields = recall_in c.args.fields.now c.requires.1 in
+    let fields = recall_in c.args.fields.now c.requires in
     search rules
 
 pub returns-then-get-fields : goal.returns-then-get-fields
@@ -23,17 +23,17 @@ returns-then-get-fields c = search other_giver
 
 pub overflow_mul-e : goal.overflow_mul-e
 overflow_mul-e c =
-    let fields = recall_in c.args.fields.now c.requires.1 in
+    let fields = recall_in c.args.fields.now c.requires in
     search rules
 
 pub overflow_add-e : goal.overflow_add-e
 overflow_add-e c =
-    let fields = recall_in c.args.fields.now c.requires.1 in
+    let fields = recall_in c.args.fields.now c.requires in
     search rules
 
 pub get-requires-3 : goal.get-requires-3
 get-requires-3 c =
-    let fields = recall_in c.args.fields.now c.requires.1 in
+    let fields = recall_in c.args.fields.now c.requires in
     search rules
 
 pub returns-then-get-fields-2 : goal.returns-then-get-fields-2

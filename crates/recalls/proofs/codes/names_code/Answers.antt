@@ -7,7 +7,7 @@ use Rattle.recalls.proofs.codes.names_code.Goals as goal
 
 pub get-lot-requires : goal.get-lot-requires
 get-lot-requires c =
-    let fields = recall_in c.args.fields.now c.requires.1 in
+    let fields = recall_in c.args.fields.now c.requires in
     search rules
 
 pub returns-then-lot-eq0 : goal.returns-then-lot-eq0
@@ -18,7 +18,7 @@ returns-then-fields-lot-ne0 c = search part_lot
 
 pub get-requires : goal.get-requires
 get-requires c =
-    let fields = recall_in c.args.fields.now c.requires.1 in
+    let fields = recall_in c.args.fields.now c.requires in
     search rules
 
 pub returns-then-get-eq0 : goal.returns-then-get-eq0
