@@ -1,6 +1,6 @@
 -- The tables by their names in the code, and the number of each in the layout.
 -- Assumes nothing.
-use Rattle.std.specs.Prelude.{ℕ}
+use Rattle.std.specs.Prelude.{ℕ, List, map}
 use Rattle.book.specs.Layout.{today, tolerance, next_number, lots, prices, haircuts, quote_days, modes, lists, partials, waiting_modes, waiting_lists, waiting_partials, maps, greatest_ages, numbers, request_kinds, sides, givers, takers, baskets_or_exposures, amounts, settlements, closings, references, settled_amounts, partners, pair_partials, cancels, ends, in_use, exposure_givers, exposure_takers, exposure_baskets, exposure_closings, exposure_amounts, accounts, positions, spares}
 use Rattle.book.specs.declared.layout.Table.{Table}
 use Rattle.book.specs.declared.layout.Table.TheVariants.{Today, Tolerance, NextNumber, Lots, Prices, Haircuts, QuoteDays, Modes, Lists, Partials, WaitingModes, WaitingLists, WaitingPartials, Maps, GreatestAges, Numbers, RequestKinds, Sides, Givers, Takers, BasketsOrExposures, Amounts, Settlements, Closings, References, SettledAmounts, Partners, PairPartials, Cancels, Ends, InUse, ExposureGivers, ExposureTakers, ExposureBaskets, ExposureClosings, ExposureAmounts, Accounts, Positions, Spares}
@@ -45,3 +45,7 @@ number ExposureAmounts = exposure_amounts
 number Accounts = accounts
 number Positions = positions
 number Spares = spares
+
+-- the numbers of some tables
+abbrev pub numbers_of : List Table → List ℕ
+numbers_of = map number

@@ -147,3 +147,44 @@ pub fn width_of(table: Table) -> usize
         _ => 4,
     }
 }
+
+// The tables of one thing, in their order: a request, an exposure and its key, a profile that waits.
+pub const REQUEST_TABLES: [Table; 15] = [
+    Table::Numbers,
+    Table::RequestKinds,
+    Table::Sides,
+    Table::Givers,
+    Table::Takers,
+    Table::BasketsOrExposures,
+    Table::Amounts,
+    Table::Settlements,
+    Table::Closings,
+    Table::References,
+    Table::SettledAmounts,
+    Table::Partners,
+    Table::PairPartials,
+    Table::Cancels,
+    Table::Ends,
+];
+
+pub const EXPOSURE_TABLES: [Table; 6] = [
+    Table::InUse,
+    Table::ExposureGivers,
+    Table::ExposureTakers,
+    Table::ExposureBaskets,
+    Table::ExposureClosings,
+    Table::ExposureAmounts,
+];
+
+pub const KEY_TABLES: [Table; 4] = [
+    Table::ExposureGivers,
+    Table::ExposureTakers,
+    Table::ExposureBaskets,
+    Table::ExposureClosings,
+];
+
+pub const WAITING_TABLES: [Table; 3] = [
+    Table::WaitingModes,
+    Table::WaitingLists,
+    Table::WaitingPartials,
+];

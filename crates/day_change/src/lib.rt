@@ -4,6 +4,7 @@
 ghost use Rattle.std.specs.Prelude.{◌≡◌, true, ◌<◌, length};
 ghost use Rattle.calendar.specs.Target.{next_open_day};
 ghost use Rattle.book.specs.Layout.{book_length, table_count, rows_of, width_of, today};
+ghost use Rattle.book.specs.Tables.{number};
 ghost use Rattle.book.specs.State.{state, put};
 ghost use Rattle.rules.specs.Codes.{next_day_rules};
 ghost use Rattle.rules.specs.DayChange.{change_takes_effect, profiles_changed, on_next_day, next_day};
@@ -14,7 +15,7 @@ ghost use Rattle.day_rows.specs.Parts.{tried};
 ghost use Rattle.day_change.specs.Parts.{profile_waits};
 
 use book::Book;
-use book::layout::Table;
+use book::layout::{Table, WAITING_TABLES};
 use calendar::LAST_DAY;
 use day_rows::Pass;
 use totals::Totals;
@@ -32,9 +33,9 @@ pub fn next_day_code(book: &Book) -> u64
 }
 
 // Copies a row's number from one table to another.
-fn copy(book: &mut Book, to: usize, from: usize, i: usize)
-    requires { (to < table_count) × (from < table_count) × (i < rows_of to) × (i < rows_of from) × (width_of from ≡ width_of to) }
-    ensures { state book.new ≡ put (state book.old) to i (state book.old from i) }
+fn copy(book: &mut Book, to: Table, from: Table, i: usize)
+    requires { (i < rows_of (number to)) × (i < rows_of (number from)) × (width_of (number from) ≡ width_of (number to)) }
+    ensures { state book.new ≡ put (state book.old) (number to) i (state book.old (number from) i) }
 {
     let x = book::get(book, from, i);
     book::set(book, to, i, x);
@@ -49,7 +50,7 @@ fn change_profile(book: &mut Book, p: usize)
         copy(book, Table::Modes, Table::WaitingModes, p);
         copy(book, Table::Lists, Table::WaitingLists, p);
         copy(book, Table::Partials, Table::WaitingPartials, p);
-        day_rows::clear(book, 3, Table::WaitingModes, p);
+        day_rows::clear(book, &WAITING_TABLES, p);
     }
 }
 

@@ -6,7 +6,6 @@ use mathlib.Core.Logic.{⊎_elim}
 use Prim.Native.Nat.{ℕ, ◌≤◌, ◌<◌}
 use native.Mathlib.Omega.{arith}
 use borrow.Author.Tests.{ne_eqb}
-use Rattle.laws.specs.Filled.{filled}
 use Rattle.laws.proofs.Cases.{either}
 use Rattle.book.specs.Layout.{in_use}
 use Rattle.book.specs.State.{State}
@@ -17,9 +16,6 @@ use Rattle.facts.proofs.Rows.{used_exposure}
 use Rattle.facts.proofs.Stock.{position_at}
 use Rattle.bond_laws.proofs.Moving.{give_back_raisable}
 use Rattle.day_laws.proofs.Closed.{closed_used}
-use Rattle.row_tests.specs.Rows.{InRows}
-use Rattle.row_tests.proofs.InRows.{in_rows}
-use Rattle.day_rows.specs.Parts.{cleared}
 use Rattle.day_rows.proofs.OnEach.{each_leaves}
 use Rattle.day_exposures.specs.Parts.{amount_closed, Entire, Closable}
 
@@ -62,12 +58,3 @@ amount_le s e l h =
     (λ (q : is_exposure_closed s e ≡ true). rw q (h.amount e l (closed_used s e q)))
     (λ (q : is_exposure_closed s e ≡ false). rw q (omega arith))
     (either (is_exposure_closed s e))
-
--- an exposure row cleared in its six tables, which have the same rows
-pub in_exposures : (e : ℕ) → e < 64 → InRows 6 in_use e
-unfolding filled
-in_exposures e l = in_rows 64 in_use 6 refl (omega arith) 6 in_use e (omega arith) (omega arith) l
-
-pub cleared_exposure : (s : State) (e : ℕ) → cleared s 6 in_use e ≡ exposure_freed s e
-unfolding cleared
-cleared_exposure s e = refl

@@ -14,7 +14,7 @@ ghost use Rattle.day_rows.specs.Parts.{tried};
 ghost use Rattle.day_exposures.specs.Parts.{amount_closed, is_held, security_back, Entire, Closable, is_not_of, RowSlot, Marked, MarkedFor};
 
 use book::Book;
-use book::layout::Table;
+use book::layout::{EXPOSURE_TABLES, Table};
 
 // Gives one security of a position back to its owner, where it is held.
 fn give_security(book: &mut Book, owner: usize, e: usize, i: usize)
@@ -133,8 +133,7 @@ fn row_slot(book: &Book, i: usize) -> usize
 }
 
 // Is there a used exposure of amount 0? Only time depends on it.
-fn is_any_empty(book: &Book) -> bool
-{
+fn is_any_empty(book: &Book) -> bool {
     for e in 0..64 {
         if book::get(book, Table::InUse, e) == 1 {
             if book::get(book, Table::ExposureAmounts, e) == 0 {
@@ -184,7 +183,7 @@ fn free_exposure(book: &mut Book, marks: &[u8; 1025], e: usize)
     ensures { state book.new ≡ tried is_idle exposure_freed (state book.old) e }
 {
     if is_idle(book, marks, e) {
-        day_rows::clear(book, 6, Table::InUse, e);
+        day_rows::clear(book, &EXPOSURE_TABLES, e);
     }
 }
 

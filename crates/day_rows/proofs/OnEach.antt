@@ -1,5 +1,6 @@
 -- A step on each row that passes a test: what it leaves, and a loop that tests on the way.
 -- Assumes nothing.
+use mir.Val.{bool_byte}
 use mathlib.Core.Path.{◌≡◌, refl, sym, ap, ◌∙◌}
 use mathlib.Core.Bool.{Bool, true, false, cond}
 use mathlib.Core.Logic.{⊎_elim}
@@ -53,3 +54,8 @@ module _ (test : State → ℕ → Bool) (step : State → ℕ → State) (s : S
 
   pub step_left : b ≡ false → s ≡ tried test step s i
   step_left h = rw (sym e ∙ h)
+
+-- a test as a number, in the code's words
+pub counted : {n : ℕ} (b : Bool) {t : Bool} → n ≡ bool_byte b → b ≡ t → n ≡ cond t 1 0
+counted true p q = rw (← q) p
+counted false p q = rw (← q) p

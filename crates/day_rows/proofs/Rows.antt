@@ -4,10 +4,8 @@ use mathlib.Core.Path.{◌≡◌, refl}
 use mathlib.Core.Bool.{Bool}
 use mathlib.Core.Logic.{⊎_elim}
 use Prim.Native.Nat.{ℕ, ◌+◌, ◌<◌}
-use native.Mathlib.Numerals.{add-one}
 use native.Mathlib.Omega.{arith}
 use borrow.Author.Tests.{ne_eqb}
-use Rattle.laws.specs.Filled.{filled}
 use Rattle.laws.proofs.Cases.{either}
 use Rattle.book.specs.Layout.{numbers, request_kinds, baskets_or_exposures}
 use Rattle.book.specs.State.{State, put}
@@ -15,31 +13,10 @@ use Rattle.rules.specs.DayChange.{row_dropped, on_each}
 use Rattle.rules.specs.Requests.{is_used}
 use Rattle.facts.specs.Good.{Sound}
 use Rattle.facts.proofs.Rows.{Kind, fop, return, used_fields, unused_blank_lem}
-use Rattle.row_tests.specs.Rows.{InRows}
-use Rattle.row_tests.proofs.InRows.{in_rows}
 use Rattle.day_laws.proofs.Each.{each_keeps}
-use Rattle.day_rows.specs.Parts.{drops, cleared, ReturnNamed}
+use Rattle.day_rows.specs.Parts.{drops, ReturnNamed}
 use Rattle.day_rows.specs.declared.Pass.{Pass}
 use Rattle.day_rows.specs.declared.Pass.TheVariants.{Done, ClosedFops, ClosedReturns}
-
--- the tables of a request row have the same rows
-pub in_requests : (i : ℕ) → i < 256 → InRows 15 numbers i
-unfolding filled
-in_requests i l = in_rows 256 numbers 15 refl (omega arith) 15 numbers i (omega arith) (omega arith) l
-
--- one table more, in the code's k + 1
-pub cleared_next : (s : State) (k from i : ℕ) → cleared s (k + 1) from i ≡ put (cleared s k from i) (from + k) i 0
-unfolding cleared
-cleared_next s k from i = rw add-one
-
-pub cleared_none : (s : State) (from i : ℕ) → cleared s 0 from i ≡ s
-unfolding cleared
-cleared_none s from i = refl
-
--- a request row cleared in its fifteen tables
-pub cleared_row : (s : State) (i : ℕ) → cleared s 15 numbers i ≡ row_dropped s i
-unfolding cleared
-cleared_row s i = refl
 
 -- the tests of a row read its own tables, today and the exposures
 pub rows_apart : (pass : Pass) (s : State) (j i : ℕ) → j < i → drops pass (row_dropped s j) i ≡ drops pass s i

@@ -17,11 +17,6 @@ drops ClosedReturns = is_closed_return
 abbrev pub tried : (State → ℕ → Bool) → (State → ℕ → State) → State → ℕ → State
 tried test step s i = cond (test s i) (step s i) s
 
--- the state whose row i holds nothing in n tables from one on
-unfoldable pub cleared : State → ℕ → ℕ → ℕ → State
-cleared s zero from i = s
-cleared s (suc n) from i = put (cleared s n from i) (from + n) i 0
-
 -- a return names one of the 64 exposure rows
 pub record ReturnNamed (s : State) (i : ℕ) : Type 0 where
   pub named : s request_kinds i ≡ 7 → s baskets_or_exposures i < 64

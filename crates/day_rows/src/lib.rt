@@ -2,17 +2,18 @@
 // A row is tested and dropped in one walk: no test reads what the rows before it have lost.
 #![tactic(auto)]
 
-ghost use Rattle.std.specs.Prelude.{◌≡◌, true, cond, ◌<◌, length};
+ghost use Rattle.std.specs.Prelude.{◌≡◌, true, ◌<◌, length};
 ghost use Rattle.laws.specs.Search.{count};
 ghost use Rattle.book.specs.Layout.{book_length};
-ghost use Rattle.book.specs.State.{state};
+ghost use Rattle.book.specs.State.{state, clear_row};
 ghost use Rattle.rules.specs.DayChange.{row_dropped, rows_dropped, is_done, is_reached, is_closed_fop, is_exposure_closed, is_closed_return};
 ghost use Rattle.rules.specs.Sound.{sound};
-ghost use Rattle.row_tests.specs.Rows.{InRows};
-ghost use Rattle.day_rows.specs.Parts.{tried, drops, cleared, ReturnNamed};
+ghost use Rattle.row_tests.specs.Rows.{HaveRow};
+ghost use Rattle.book.specs.Tables.{numbers_of};
+ghost use Rattle.day_rows.specs.Parts.{tried, drops, ReturnNamed};
 
 use book::Book;
-use book::layout::Table;
+use book::layout::{REQUEST_TABLES, Table};
 
 // The passes that drop rows.
 #[derive(Clone, Copy)]
@@ -106,27 +107,26 @@ fn is_dropped(book: &Book, pass: Pass, i: usize) -> bool
     }
 }
 
-// Makes a row hold nothing in n tables from one on.
-pub fn clear(book: &mut Book, n: usize, from: usize, i: usize)
-    requires { InRows n from i }
-    ensures { state book.new ≡ cleared (state book.old) n from i }
+// Makes a row hold nothing in each of some tables.
+pub fn clear(book: &mut Book, tables: &[Table], i: usize)
+    requires { HaveRow i tables.now }
+    ensures { state book.new ≡ clear_row (state book.old) (numbers_of tables.now) i }
 {
-    for k in 0..n {
-        book::set(book, from + k, i, 0);
+    for table in tables {
+        book::set(book, *table, i, 0);
     }
 }
 
-// Drops a row that is to be dropped: 1 where it was, else 0.
-fn drop_row(book: &mut Book, pass: Pass, i: usize) -> u64
+// Drops a row that is to be dropped; was it?
+fn drop_row(book: &mut Book, pass: Pass, i: usize) -> bool
     requires { (i < 256) × ReturnNamed (state book.old) i }
-    ensures { (result ≡ cond (drops pass (state book.old) i) 1 0) × (state book.new ≡ tried (drops pass) row_dropped (state book.old) i) }
+    ensures { (result ≡ drops pass (state book.old) i) × (state book.new ≡ tried (drops pass) row_dropped (state book.old) i) }
 {
-    if is_dropped(book, pass, i) {
-        clear(book, 15, Table::Numbers, i);
-        1
-    } else {
-        0
+    let dropped = is_dropped(book, pass, i);
+    if dropped {
+        clear(book, &REQUEST_TABLES, i);
     }
+    dropped
 }
 
 // Drops the rows that a pass drops: how many they are.
@@ -136,7 +136,7 @@ pub fn drop_rows(book: &mut Book, pass: Pass) -> u64
 {
     let mut dropped: u64 = 0;
     for i in 0..256 {
-        dropped += drop_row(book, pass, i);
+        dropped += u64::from(drop_row(book, pass, i));
     }
     dropped
 }

@@ -39,7 +39,12 @@ fn write_terms(book: &mut Book, kind: u64, fields: &Fields, i: usize)
 {
     book::set(book, Table::Amounts, i, fields[4]);
     book::set(book, Table::Settlements, i, fields[5]);
-    book::set(book, Table::Closings, i, request_search::closing_in(kind, fields));
+    book::set(
+        book,
+        Table::Closings,
+        i,
+        request_search::closing_in(kind, fields),
+    );
     book::set(book, Table::References, i, reference_in(kind, fields));
 }
 

@@ -1,3 +1,3 @@
 pub mod Empty
-pub mod InRows
+pub mod Named
 pub mod Returns

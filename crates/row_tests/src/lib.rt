@@ -1,76 +1,67 @@
 // Rows of the book tested for nothing, or compared.
 #![tactic(auto)]
 
-ghost use Rattle.std.specs.Prelude.{◌≡◌, ◌<◌, ◌≤◌, ◌+◌, length, eqb};
-ghost use Rattle.book.specs.Layout.{book_length, table_count, rows_of};
-ghost use Rattle.book.specs.State.{state};
+ghost use Rattle.std.specs.Prelude.{◌≡◌, ◌<◌, ◌≤◌, ◌+◌, eqb};
+ghost use Rattle.book.specs.Layout.{rows_of};
+ghost use Rattle.book.specs.State.{state, rows_alike, row_blank};
+ghost use Rattle.book.specs.Tables.{number, numbers_of};
 ghost use Rattle.rules.specs.ByRow.{same};
 ghost use Rattle.row_tests.specs.Bytes.{empty_bytes, empty_rows};
-ghost use Rattle.row_tests.specs.Rows.{InRows, alike, blank};
+ghost use Rattle.row_tests.specs.Rows.{HaveRow};
 
-use book::Book;
-use book::layout;
+use book::layout::Table;
+use book::{Book, layout};
 
 // Are all of some bytes 0? There is no way out on the way, so that the compiler takes sixteen bytes at a time.
 pub fn are_empty(bytes: &[u8]) -> bool
     ensures { result ≡ empty_bytes bytes.now }
 {
     let mut seen: u8 = 0;
-    for k in 0..bytes.len() {
-        seen = seen | bytes[k];
+    for byte in bytes {
+        seen |= *byte;
     }
     seen == 0
 }
 
 // Do rows of a table hold nothing? They are bytes in a row.
-pub fn are_rows_empty(book: &Book, f: usize, start: usize, n: usize) -> bool
-    requires { (0 < n) × (start + n ≤ rows_of f) }
-    ensures { result ≡ empty_rows (state book.now) f start n }
+pub fn are_rows_empty(book: &Book, table: Table, start: usize, n: usize) -> bool
+    requires { (0 < n) × (start + n ≤ rows_of (number table)) }
+    ensures { result ≡ empty_rows (state book.now) (number table) start n }
 {
-    let width = layout::width_of(f);
-    let from = layout::base_of(f) + width * start;
+    let width = layout::width_of(table);
+    let from = layout::base_of(table) + width * start;
     let to = from + width * n;
     are_empty(&book[from..to])
 }
 
 // Do two rows of a table hold the same?
-fn is_same(book: &Book, f: usize, i: usize, j: usize) -> bool
-    requires { (i < rows_of f) × (j < rows_of f) }
-    ensures { result ≡ same (state book.now) f i j }
+fn is_same(book: &Book, table: Table, i: usize, j: usize) -> bool
+    requires { (i < rows_of (number table)) × (j < rows_of (number table)) }
+    ensures { result ≡ same (state book.now) (number table) i j }
 {
-    book::get(book, f, i) == book::get(book, f, j)
+    book::get(book, table, i) == book::get(book, table, j)
 }
 
 // Does a row of a table hold nothing?
-fn is_zero(book: &Book, f: usize, i: usize) -> bool
-    requires { i < rows_of f }
-    ensures { result ≡ eqb (state book.now f i) 0 }
+fn is_zero(book: &Book, table: Table, i: usize) -> bool
+    requires { i < rows_of (number table) }
+    ensures { result ≡ eqb (state book.now (number table) i) 0 }
 {
-    book::get(book, f, i) == 0
+    book::get(book, table, i) == 0
 }
 
-// Do two rows hold the same in each of n tables from one on?
-pub fn are_alike(book: &Book, n: usize, from: usize, i: usize, j: usize) -> bool
-    requires { InRows n from i × InRows n from j }
-    ensures { result ≡ alike (state book.now) n from i j }
+// Do two rows hold the same in each of some tables?
+pub fn are_alike(book: &Book, tables: &[Table], i: usize, j: usize) -> bool
+    requires { HaveRow i tables.now × HaveRow j tables.now }
+    ensures { result ≡ rows_alike (state book.now) (numbers_of tables.now) i j }
 {
-    for f in from..from + n {
-        if !is_same(book, f, i, j) {
-            return false;
-        }
-    }
-    true
+    tables.iter().all(|table| is_same(book, *table, i, j))
 }
 
-// Does a row hold nothing in any of n tables from one on?
-pub fn is_blank(book: &Book, n: usize, from: usize, i: usize) -> bool
-    requires { InRows n from i }
-    ensures { result ≡ blank (state book.now) n from i }
+// Does a row hold nothing in any of some tables?
+pub fn is_blank(book: &Book, tables: &[Table], i: usize) -> bool
+    requires { HaveRow i tables.now }
+    ensures { result ≡ row_blank (state book.now) (numbers_of tables.now) i }
 {
-    for f in from..from + n {
-        if !is_zero(book, f, i) {
-            return false;
-        }
-    }
-    true
+    tables.iter().all(|table| is_zero(book, *table, i))
 }

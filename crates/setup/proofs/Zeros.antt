@@ -1,4 +1,4 @@
--- A book of zeros: how a loop makes it, and that its state is the empty one.
+-- A book of zeros: its state is the empty one.
 -- Assumes nothing.
 use mathlib.Core.Path.{◌≡◌, refl, sym, ◌∙◌, fun_ext}
 use mathlib.Core.List.{List}
@@ -12,20 +12,6 @@ use Rattle.book.specs.Layout.{rows_of, width_of, place_of}
 use Rattle.book.specs.State.{state}
 use Rattle.book.proofs.Cells.{state_at, state_none}
 use Rattle.rules.specs.SetUp.{empty_state}
-
--- the bytes before a place are 0
-abbrev pub ZeroTo : List ℕ → ℕ → Type 0
-ZeroTo b i = (j : ℕ) → j < i → get_or b j 0 ≡ 0
-
-pub zero_next : (b : List ℕ) (i : ℕ) → i < length b → ZeroTo b i → ZeroTo (set b i 0) (i + 1)
-zero_next b i l h j m =
-    elim (ℕ_discrete j i) [
-      | yes e ↦ rw e (get_or-set_same b i 0 0 l)
-      | no e ↦ get_or-set_other b i j 0 0 e ∙ h j (omega arith)
-    ]
-
-pub zero_all : (b : List ℕ) (n : ℕ) → length b ≡ n → ZeroTo b n → b ≡ replicate n 0
-zero_all b n e h = ext_get_or 0 b (replicate n 0) (e ∙ sym (length-replicate n 0)) (λ i l. h i (omega arith) ∙ sym (get_or-replicate n i 0 0 (omega arith)))
 
 -- its numbers
 abbrev zeros : ℕ → List ℕ

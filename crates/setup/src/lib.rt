@@ -14,15 +14,6 @@ use book::Book;
 use book::layout::Table;
 use record_kinds::Fields;
 
-// Makes every byte 0.
-fn clear(book: &mut Book)
-    ensures { book.new ≡ replicate (length book.old) 0 }
-{
-    for i in 0..book.len() {
-        book[i] = 0;
-    }
-}
-
 // 0: the code of an opening.
 pub fn opening_code(fields: &Fields) -> u64
     ensures { result ≡ lowest (opening_rules fields.now) }
@@ -35,7 +26,7 @@ pub fn open(book: &mut Book, fields: &Fields)
     requires { are_legal 0 fields.now ≡ true }
     ensures { state book.new ≡ (opened fields.now).state }
 {
-    clear(book);
+    book.fill(0);
     book::set(book, Table::Today, 0, fields[0]);
     book::set(book, Table::Tolerance, 0, fields[1]);
     book::set(book, Table::NextNumber, 0, 1);

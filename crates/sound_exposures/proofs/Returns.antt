@@ -8,30 +8,19 @@ use native.Mathlib.Nat.{sub-zero}
 use native.Mathlib.Omega.{arith}
 use lib.Dec.{eqb, leb}
 use borrow.Author.Tests.{eq-eqb, ne_eqb, not-true, not-false}
-use Rattle.laws.specs.Filled.{filled}
 use Rattle.laws.specs.Search.{all}
-use Rattle.laws.proofs.Least.{all_hit}
-use Rattle.book.specs.Layout.{in_use, exposure_givers, exposure_takers, exposure_baskets, exposure_closings, exposure_amounts, exposure_tables}
-use Rattle.book.specs.State.{State, row_blank}
-use Rattle.book.proofs.Tables.{every_from}
+use Rattle.book.specs.Layout.{in_use, exposure_givers, exposure_takers, exposure_baskets, exposure_closings, exposure_amounts, exposure_tables, key_tables}
+use Rattle.book.specs.State.{State, row_blank, rows_alike}
 use Rattle.rules.specs.Requests.{open_or_none}
 use Rattle.rules.specs.ByRow.{sound_parties, basket_named, same, sound_exposure, other_key, distinct_key}
 use Rattle.facts.proofs.Rows.{used_exposure, no_exposure, used_or_not}
-use Rattle.row_tests.specs.Rows.{InRows, alike, blank}
-use Rattle.row_tests.proofs.InRows.{in_rows}
-
--- the five tables of an exposure from the givers on have 64 rows
-pub in_exposures : (n e : ℕ) → n ≤ 5 → e < 64 → InRows n exposure_givers e
-unfolding filled
-in_exposures n e h l = in_rows 64 exposure_givers 5 refl (omega arith) n exposure_givers e (omega arith) (omega arith) l
 
 module _ (s : State) (e : ℕ) {u : ℕ} (q : u ≡ s in_use e) where
-  pub unused : {b : Bool} → u ≡ 0 → b ≡ blank s 5 exposure_givers e → b ≡ sound_exposure s e
+  pub unused : {b : Bool} → u ≡ 0 → b ≡ row_blank s exposure_tables e → b ≡ sound_exposure s e
   unused z h =
-      let t : ℕ → Bool = λ f. eqb (s f e) 0 in
-      let n : t in_use ≡ true = eq-eqb (s in_use e) 0 (sym q ∙ z) in
+      let n : eqb (s in_use e) 0 ≡ true = eq-eqb (s in_use e) 0 (sym q ∙ z) in
       let none : sound_exposure s e ≡ row_blank s exposure_tables e = rw n in
-      h ∙ sym (none ∙ every_from t 6 in_use ∙ all_hit t 5 in_use n)
+      h ∙ sym none
 
   -- the tests of a used row
   abbrev used_tests : Bool
@@ -74,8 +63,8 @@ module _ (s : State) (e d : ℕ) {u : ℕ} (q : u ≡ s in_use d) where
   pub other_unused : (u ≡ 1 → ⊥) → true ≡ other_key s e d
   other_unused o = rw (ne_eqb (s in_use d) 1 (λ p. o (q ∙ p)))
 
-  pub by_key : u ≡ 1 → {b : Bool} → b ≡ alike s 4 exposure_givers e d → not b ≡ other_key s e d
-  by_key o h = rw (eq-eqb (s in_use d) 1 (sym q ∙ o)) (ap not (h ∙ sym (every_from (λ f. same s f e d) 4 exposure_givers)))
+  pub by_key : u ≡ 1 → {b : Bool} → b ≡ rows_alike s key_tables e d → not b ≡ other_key s e d
+  by_key o h = rw (eq-eqb (s in_use d) 1 (sym q ∙ o)) (ap not h)
 
 module _ (s : State) (e : ℕ) {u : ℕ} (q : u ≡ s in_use e) where
   pub no_key_lem : u ≡ 0 → true ≡ distinct_key s e

@@ -10,7 +10,7 @@ ghost use Rattle.open_days.specs.Days.{OpenDays};
 ghost use Rattle.sound_exposures.specs.Keys.{KeysMarked};
 
 use book::Book;
-use book::layout::Table;
+use book::layout::{EXPOSURE_TABLES, KEY_TABLES, Table};
 use limits::GREATEST_EXPOSURE;
 
 fn is_sound_exposure(book: &Book, e: usize, days: &[u64; 16]) -> bool
@@ -19,7 +19,7 @@ fn is_sound_exposure(book: &Book, e: usize, days: &[u64; 16]) -> bool
 {
     let used = book::get(book, Table::InUse, e);
     if used == 0 {
-        return row_tests::is_blank(book, 5, Table::ExposureGivers, e);
+        return row_tests::is_blank(book, &EXPOSURE_TABLES, e);
     }
     if used != 1 {
         return false;
@@ -69,7 +69,7 @@ fn has_other_key(book: &Book, e: usize, d: usize) -> bool
     if book::get(book, Table::InUse, d) != 1 {
         return true;
     }
-    !row_tests::are_alike(book, 4, Table::ExposureGivers, e, d)
+    !row_tests::are_alike(book, &KEY_TABLES, e, d)
 }
 
 fn is_distinct_key(book: &Book, e: usize) -> bool

@@ -14,7 +14,7 @@ use Rattle.book.specs.State.{State, rows_alike}
 use Rattle.book.proofs.Tables.{every_from}
 use Rattle.rules.specs.ByRow.{same}
 use Rattle.facts.proofs.Truth.{all_of, agree}
-use Rattle.row_tests.specs.Rows.{blank}
+use Rattle.laws.specs.Search.{all}
 use Rattle.row_tests.proofs.Empty.{or_left, or_right}
 use Rattle.sound_fields.specs.Rows.{Reads}
 use Rattle.sound_fields.specs.declared.Request as declared
@@ -36,7 +36,7 @@ module _ (s : State) (i from : ℕ) where
   none_each zero h = h from (omega arith) (omega arith)
   none_each (suc n) h = rw (none_each n (λ f a b. h f a (omega arith)), or_zero_l) (h (from + suc n) (omega arith) (omega arith))
 
-  together_blank : (n : ℕ) → eqb (together s i from n) 0 ≡ blank s (suc n) from i
+  together_blank : (n : ℕ) → eqb (together s i from n) 0 ≡ all (λ f. eqb (s f i) 0) (suc n) from
   together_blank n =
       let t : ℕ → Bool = λ f. eqb (s f i) 0 in
       agree

@@ -7,25 +7,18 @@ use Prim.Native.Nat.{ℕ, zero, suc, ◌+◌, ◌*◌, ◌-◌, ◌≤◌, ◌<�
 use native.Mathlib.Omega.{arith}
 use lib.Dec.{eqb}
 use borrow.Author.Tests.{eq-eqb, eqb-true, not-true, not-false}
-use Rattle.laws.specs.Filled.{filled}
 use Rattle.laws.specs.Search.{all}
 use Rattle.laws.proofs.Cases.{either, clash}
 use Rattle.laws.proofs.Least.{Rest, all_at, all_hit, all_miss, all_none, all_end}
-use Rattle.book.specs.Layout.{numbers, request_kinds}
+use Rattle.book.specs.Layout.{numbers, request_kinds, request_tables}
 use Rattle.book.specs.State.{State}
+use Rattle.book.proofs.Tables.{every_from}
 use Rattle.rules.specs.Requests.{is_used}
 use Rattle.rules.specs.ByRow.{sound_row}
 use Rattle.facts.proofs.Truth.{all_of, below, agree}
 use Rattle.facts.proofs.Rows.{unused_blank_lem, blank_sound}
 use Rattle.row_tests.specs.Bytes.{empty_rows}
-use Rattle.row_tests.specs.Rows.{InRows}
-use Rattle.row_tests.proofs.InRows.{in_rows}
 use Rattle.sound_requests.specs.Rows.{empty_tables}
-
--- the fourteen tables from the kinds on have 256 rows
-pub in_requests : (n from i : ℕ) → request_kinds ≤ from → from + n ≤ request_kinds + 14 → i < 256 → InRows n from i
-unfolding filled
-in_requests n from i g h l = in_rows 256 request_kinds 14 refl (omega arith) n from i g h l
 
 -- m tests, and n after them
 all_more : (t : ℕ → Bool) (m n i : ℕ) → all t m i ≡ true → all t (m + n) i ≡ all t n (i + m)
@@ -46,14 +39,6 @@ all_less t (suc m) n i h =
     (λ p. rw z (all_hit t (m + n) i p ∙ all_less t m n (suc i) (sym (all_hit t m i p) ∙ h)))
     (λ p. rw z (all_miss t (m + n) i p))
     (either (t i))
-
--- the fourteen tables as six and eight
-module _ (t : ℕ → Bool) {a : Bool} (e : a ≡ all t 6 16) where
-  pub six_fail : not a ≡ true → false ≡ all t 14 16
-  six_fail f = sym (all_less t 6 8 16 (sym e ∙ not-true a f))
-
-  pub by_eight : {b : Bool} → not a ≡ false → b ≡ all t 8 22 → b ≡ all t 14 16
-  by_eight f q = q ∙ sym (all_more t 6 8 16 (sym e ∙ not-false a f))
 
 -- a loop that takes sixteen at a time
 module _ {t : ℕ → Bool} {k : ℕ} {whole : Bool} (r : Rest t 256 (16 * k) whole) (l : k < 16) {b : Bool} (e : b ≡ all t 16 (16 * k)) where
@@ -76,7 +61,7 @@ pub sixteen_starts : (t : ℕ → Bool) (k : ℕ) → Rest t (16 * k + 16) (16 *
 sixteen_starts t k = let n : 16 * k + 16 - 16 * k ≡ 16 = omega arith in record { decides = rw n }
 
 -- sixteen rows of which none is used
-module _ (s : State) (k : ℕ) {u r : Bool} (uq : u ≡ empty_rows s numbers (16 * k) 16) (none : u ≡ true) (rq : r ≡ empty_tables s 14 request_kinds k) where
+module _ (s : State) (k : ℕ) {u r : Bool} (uq : u ≡ empty_rows s numbers (16 * k) 16) (none : u ≡ true) (rq : r ≡ empty_tables s request_tables k) where
   unused : (i : ℕ) → 16 * k ≤ i → i < 16 * k + 16 → is_used s i ≡ false
   unused i a l =
       let place : 16 * k + (i - 16 * k) ≡ i = omega arith in
@@ -86,6 +71,8 @@ module _ (s : State) (k : ℕ) {u r : Bool} (uq : u ≡ empty_rows s numbers (16
   pub by_tables : r ≡ all (sound_row s) 16 (16 * k)
   by_tables =
       rq
+      ∙ every_from (λ f. empty_rows s f (16 * k) 16) 15 numbers
+      ∙ all_hit (λ f. empty_rows s f (16 * k) 16) 14 numbers (sym uq ∙ none)
       ∙ agree
       (λ p. all_of (sound_row s) 16 (16 * k) (λ i a l.
       let place : 16 * k + (i - 16 * k) ≡ i = omega arith in

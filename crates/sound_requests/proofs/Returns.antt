@@ -6,21 +6,17 @@ use Prim.Native.Nat.{ℕ, ◌<◌}
 use native.Mathlib.Omega.{arith}
 use lib.Dec.{eqb}
 use borrow.Author.Tests.{eq-eqb, ne_eqb, not-true, not-false}
-use Rattle.laws.proofs.Least.{all_hit}
 use Rattle.book.specs.Layout.{numbers, request_kinds, request_tables}
 use Rattle.book.specs.State.{State, row_blank}
-use Rattle.book.proofs.Tables.{every_from}
 use Rattle.rules.specs.ByRow.{sound_fields, sound_row}
-use Rattle.row_tests.specs.Rows.{blank}
 use Rattle.sound_pairs.specs.Rest.{sound_rest}
 
 module _ (s : State) (i : ℕ) where
-  pub by_blank : {n : ℕ} {b : Bool} → n ≡ s numbers i → n ≡ 0 → b ≡ blank s 14 request_kinds i → b ≡ sound_row s i
+  pub by_blank : {n : ℕ} {b : Bool} → n ≡ s numbers i → n ≡ 0 → b ≡ row_blank s request_tables i → b ≡ sound_row s i
   by_blank nq h e =
-      let t : ℕ → Bool = λ f. eqb (s f i) 0 in
-      let z : t numbers ≡ true = eq-eqb (s numbers i) 0 (sym nq ∙ h) in
+      let z : eqb (s numbers i) 0 ≡ true = eq-eqb (s numbers i) 0 (sym nq ∙ h) in
       let unused : sound_row s i ≡ row_blank s request_tables i = rw z in
-      e ∙ sym (unused ∙ every_from t 15 numbers ∙ all_hit t 14 numbers z)
+      e ∙ sym unused
 
   module _ (used : 0 < s numbers i) {n : ℕ} (at : n ≡ i) {f : Bool} (fq : f ≡ sound_fields s n) where
     is_used_lem : eqb (s numbers i) 0 ≡ false

@@ -1,7 +1,7 @@
 -- What the pass over the request rows knows of those before, and rows that hold nothing.
 -- Assumes nothing.
-use Rattle.std.specs.Prelude.{Bool, true, ◌≡◌, ℕ, ◌+◌, ◌*◌, ◌<◌}
-use Rattle.laws.specs.Search.{all}
+use Rattle.std.specs.Prelude.{Bool, true, ◌≡◌, List, ℕ, ◌+◌, ◌*◌, ◌<◌}
+use Rattle.laws.specs.Lists.{every}
 use Rattle.book.specs.Layout.{numbers, partners}
 use Rattle.book.specs.State.{State}
 use Rattle.rules.specs.ByRow.{sound_row}
@@ -18,6 +18,6 @@ pub record Later (s : State) (i j : ℕ) : Type 0 where
   pub named : s partners i ≡ j + 1
   pub earlier : sound_row s j ≡ true
 
--- sixteen rows of n tables from one on hold nothing
-abbrev pub empty_tables : State → ℕ → ℕ → ℕ → Bool
-empty_tables s n from k = all (λ f. empty_rows s f (16 * k) 16) n from
+-- sixteen rows hold nothing in each of some tables
+abbrev pub empty_tables : State → List ℕ → ℕ → Bool
+empty_tables s tables k = every (λ f. empty_rows s f (16 * k) 16) tables

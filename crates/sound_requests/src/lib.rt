@@ -7,11 +7,12 @@ ghost use Rattle.book.specs.Layout.{book_length, numbers, request_kinds};
 ghost use Rattle.book.specs.State.{state};
 ghost use Rattle.rules.specs.ByRow.{sound_row};
 ghost use Rattle.open_days.specs.Days.{OpenDays};
-ghost use Rattle.row_tests.specs.Rows.{InRows, blank};
+ghost use Rattle.row_tests.specs.Rows.{HaveRow};
+ghost use Rattle.book.specs.Tables.{numbers_of};
 ghost use Rattle.sound_requests.specs.Rows.{Later, Passed, empty_tables};
 
 use book::Book;
-use book::layout::Table;
+use book::layout::{REQUEST_TABLES, Table};
 
 // A used row that is not the later one of a pair.
 fn is_sound_first(book: &Book, hints: &[u8; 1024], days: &[u64; 16], i: usize) -> bool
@@ -39,39 +40,12 @@ fn is_sound_later(book: &Book, i: usize, j: usize) -> bool
     book::get(book, Table::Cancels, i) <= 1
 }
 
-// Does a row hold nothing, in the fourteen tables from the kinds on? The loops are short enough for the compiler to unroll.
-fn is_blank_row(book: &Book, i: usize) -> bool
-    requires { i < 256 }
-    ensures { result ≡ blank (state book.now) 14 request_kinds i }
+// Do sixteen rows hold nothing, in each of some tables?
+fn are_tables_empty(book: &Book, tables: &[Table], k: usize) -> bool
+    requires { (k < 16) × HaveRow 255 tables.now }
+    ensures { result ≡ empty_tables (state book.now) (numbers_of tables.now) k }
 {
-    if !row_tests::is_blank(book, 6, Table::RequestKinds, i) {
-        return false;
-    }
-    row_tests::is_blank(book, 8, Table::Settlements, i)
-}
-
-// Do sixteen rows hold nothing, in n tables from one on?
-fn are_tables_empty(book: &Book, n: usize, from: usize, k: usize) -> bool
-    requires { (k < 16) × InRows n from 255 }
-    ensures { result ≡ empty_tables (state book.now) n from k }
-{
-    for f in from..from + n {
-        if !row_tests::are_rows_empty(book, f, 16 * k, 16) {
-            return false;
-        }
-    }
-    true
-}
-
-// The same in the fourteen tables from the kinds on.
-fn are_sixteen_blank(book: &Book, k: usize) -> bool
-    requires { k < 16 }
-    ensures { result ≡ empty_tables (state book.now) 14 request_kinds k }
-{
-    if !are_tables_empty(book, 6, Table::RequestKinds, k) {
-        return false;
-    }
-    are_tables_empty(book, 8, Table::Settlements, k)
+    tables.iter().all(|table| row_tests::are_rows_empty(book, *table, 16 * k, 16))
 }
 
 fn is_sound_row(book: &Book, hints: &[u8; 1024], days: &[u64; 16], i: usize) -> bool
@@ -81,7 +55,7 @@ fn is_sound_row(book: &Book, hints: &[u8; 1024], days: &[u64; 16], i: usize) -> 
     let number = book::get(book, Table::Numbers, i);
     let partner = book::get(book, Table::Partners, i);
     if number == 0 {
-        return is_blank_row(book, i);
+        return row_tests::is_blank(book, &REQUEST_TABLES, i);
     }
     if partner != 0 {
         if partner <= i as u64 {
@@ -123,7 +97,7 @@ fn are_sixteen_sound(book: &Book, hints: &[u8; 1024], days: &mut [u64; 16], k: u
     ensures { (result ≡ all (sound_row (state book.now)) 16 (16 * k)) × OpenDays days.new }
 {
     if row_tests::are_rows_empty(book, Table::Numbers, 16 * k, 16) {
-        return are_sixteen_blank(book, k);
+        return are_tables_empty(book, &REQUEST_TABLES, k);
     }
     are_each_sound(book, hints, days, k)
 }

@@ -19,12 +19,12 @@ loop-e-preserved c =
 
 pub overflow_add-result : goal.overflow_add-result
 overflow_add-result c =
-    let small = account_small c.args.book.now (omega arith) (λ i. (c.shared_slice_known-1.given i).fits) (64 * c.args.p + c.args.i) (omega arith) in
+    let small = account_small c.args.book.now (omega arith) c.fits-book (64 * c.args.p + c.args.i) (omega arith) in
     omega (arith, c.get.ensures)
 
 pub returns : goal.returns
 unfolding holding
 returns c =
-    let small = account_small c.args.book.now (omega arith) (λ i. (c.shared_slice_known-1.given i).fits) (64 * c.args.p + c.args.i) (omega arith) in
+    let small = account_small c.args.book.now (omega arith) c.fits-book (64 * c.args.p + c.args.i) (omega arith) in
     let e : c.loop-e.e ≡ 64 = omega arith in
     (rw (c.get.ensures, rw e at c.loop-e.invariant.1), omega (arith, c.get.ensures))

@@ -14,5 +14,5 @@ returns-then-get-p c = (search not_giver, omega arith)
 
 pub returns : goal.returns
 returns c =
-    let small = position_small c.args.book.now (omega arith) (λ i. (c.shared_slice_known-1.given i).fits) (64 * c.args.e + c.args.i) (omega arith) in
+    let small = position_small c.args.book.now (omega arith) c.fits-book (64 * c.args.e + c.args.i) (omega arith) in
     (search from_used, omega (arith, c.get-3.ensures))

@@ -27,7 +27,7 @@ pub set-requires : goal.set-requires
 set-requires c =
     let fields = withdrawal_in c.args.fields.now c.requires.0 in
     let small =
-    account_small c.args.book.now (omega arith) (λ i. (c.slice_known-1.given i).fits) (64 * get_or c.args.fields.now 0 0 + get_or c.args.fields.now 1 0)
+    account_small c.args.book.now (omega arith) c.fits-book (64 * get_or c.args.fields.now 0 0 + get_or c.args.fields.now 1 0)
     (omega arith)
     in
     search rules

@@ -13,7 +13,7 @@ free-freed-requires c =
 pub give_back-requires : goal.give_back-requires
 give_back-requires c =
     let freed = freed_for (state c.args.book.now) c.args.e c.args.amount c.requires.1 c.row_at-position.ensures c.free-freed.ensures in
-    (search rules, rw freed (free_gives_back (state c.args.book.now) c.args.e c.args.amount c.requires.0))
+    rw freed (free_gives_back (state c.args.book.now) c.args.e c.args.amount c.requires.0)
 
 pub returns : goal.returns
 returns c =

@@ -9,7 +9,7 @@ use Rattle.bonds.proofs.give_back.Goals as goal
 
 pub raise-requires : goal.raise-requires
 raise-requires c =
-    (search rules, omega arith, refl, omega (arith, c.get-owner.ensures), give_back_room (state c.args.book.now) c.args.e c.args.nominals.now c.get-owner.ensures c.lower.ensures c.requires)
+    (refl, omega (arith, c.get-owner.ensures), give_back_room (state c.args.book.now) c.args.e c.args.nominals.now c.get-owner.ensures c.lower.ensures c.requires)
 
 pub returns : goal.returns
 returns c = search given_back_lem

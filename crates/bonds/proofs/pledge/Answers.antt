@@ -7,10 +7,10 @@ use borrow.Author.Rules.{rules}
 use Rattle.bonds.proofs.pledge.Goals as goal
 
 pub lower-requires : goal.lower-requires
-lower-requires c = (search rules, omega arith, refl, omega (arith, c.get-giver.ensures), search pledge_enough)
+lower-requires c = (refl, omega (arith, c.get-giver.ensures), search pledge_enough)
 
 pub raise-requires : goal.raise-requires
-raise-requires c = (search rules, omega arith, refl, omega arith, search pledge_room)
+raise-requires c = (refl, omega arith, search pledge_room)
 
 pub returns : goal.returns
 returns c = search pledged

@@ -1,13 +1,8 @@
 -- `day_change::change_profile` meets its contract.
 -- Assumes nothing.
 use Rattle.book.specs.State.{state}
-use Rattle.day_change.proofs.Profiles.{in_profiles, cleared_profile, profile_changed, profile_kept}
-use borrow.Author.Rules.{rules}
+use Rattle.day_change.proofs.Profiles.{cleared_profile, profile_changed, profile_kept}
 use Rattle.day_change.proofs.change_profile.Goals as goal
-
-pub clear-requires : goal.clear-requires
-clear-requires c =
-    (search rules, in_profiles c.args.p c.requires)
 
 pub returns-then-get-ne0 : goal.returns-then-get-ne0
 returns-then-get-ne0 c =

@@ -27,9 +27,6 @@ loop-p-preserved c =
       loop_steps profile_waits change_takes_effect profiles_apart first c.loop-p.p c.loop-p.invariant.2 c.change_profile.ensures,
     )
 
-pub shape_of-book : goal.shape_of-book
-shape_of-book c = omega arith
-
 pub returns : goal.returns
 unfolding profiles_changed
 returns c =

@@ -12,7 +12,7 @@ use Rattle.day_exposures.proofs.close_exposure.Goals as goal
 pub give_position-requires : goal.give_position-requires
 give_position-requires c =
     let before = state c.args.book.now in
-    ((omega arith), entire_back before c.args.e c.requires.0 (closed_used before c.args.e (sym c.is_exposure_closed.ensures ∙ c.if-is_exposure_closed.true)) c.requires.1)
+    entire_back before c.args.e c.requires.0 (closed_used before c.args.e (sym c.is_exposure_closed.ensures ∙ c.if-is_exposure_closed.true)) c.requires.1
 
 pub returns-then-is_exposure_closed : goal.returns-then-is_exposure_closed
 returns-then-is_exposure_closed c =

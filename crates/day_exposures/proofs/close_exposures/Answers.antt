@@ -26,8 +26,8 @@ loop-e-init c =
 pub close_exposure-closed-requires : goal.close_exposure-closed-requires
 close_exposure-closed-requires c =
     let first = state c.args.book.now in
-    let good : Good first = record { facts = sound_facts first c.requires; fits = state_fits c.args.book.now (omega arith) (λ j. (c.slice_known-1.given j).fits) } in
-    (c.loop-e.invariant.1, omega arith, rw c.loop-e.invariant.3 (sound_closable _ (closing_turned first good c.loop-e.e c.loop-e.invariant.0).good.facts))
+    let good : Good first = record { facts = sound_facts first c.requires; fits = state_fits c.args.book.now (omega arith) c.fits-book } in
+    (omega arith, rw c.loop-e.invariant.3 (sound_closable _ (closing_turned first good c.loop-e.e c.loop-e.invariant.0).good.facts))
 
 pub overflow_add-closed : goal.overflow_add-closed
 overflow_add-closed c =
@@ -50,9 +50,6 @@ loop-e-preserved c =
       rw (sum_next, c.loop-e.invariant.2, amount_before first c.loop-e.e c.loop-e.invariant.3 r.0),
       loop_steps is_exposure_closed exposure_closed closed_apart first c.loop-e.e c.loop-e.invariant.3 r.1,
     )
-
-pub shape_of-book : goal.shape_of-book
-shape_of-book c = omega arith
 
 pub returns : goal.returns
 unfolding exposures_closed

@@ -12,7 +12,7 @@ use borrow.Author.Rules.{rules}
 use Rattle.day_exposures.proofs.free_exposures.Goals as goal
 
 pub mark_rows-requires : goal.mark_rows-requires
-mark_rows-requires c = ((omega arith), refl)
+mark_rows-requires c = refl
 
 pub loop-e-init : goal.loop-e-init
 loop-e-init c =
@@ -22,7 +22,7 @@ loop-e-init c =
 pub free_exposure-requires : goal.free_exposure-requires
 free_exposure-requires c =
     let first = state c.args.book.now in
-    (c.loop-e.invariant.1, omega arith, rw c.loop-e.invariant.2 (later_marked first _ c.loop-e.e (omega arith) c.loop-e.invariant.3))
+    (omega arith, rw c.loop-e.invariant.2 (later_marked first _ c.loop-e.e (omega arith) c.loop-e.invariant.3))
 
 pub loop-e-preserved : goal.loop-e-preserved
 loop-e-preserved c =
@@ -32,9 +32,6 @@ loop-e-preserved c =
       loop_steps is_idle exposure_freed freed_apart first c.loop-e.e c.loop-e.invariant.2 c.free_exposure.ensures,
       c.loop-e.invariant.3,
     )
-
-pub shape_of-book : goal.shape_of-book
-shape_of-book c = omega arith
 
 pub returns : goal.returns
 unfolding exposures_freed

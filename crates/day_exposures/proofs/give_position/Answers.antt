@@ -13,7 +13,7 @@ use Rattle.day_exposures.proofs.give_position.Goals as goal
 
 pub get-owner-requires : goal.get-owner-requires
 get-owner-requires c =
-    ((omega arith), omega arith, c.requires.below)
+    c.requires.below
 
 pub loop-i-init : goal.loop-i-init
 loop-i-init c =
@@ -24,14 +24,11 @@ pub give_security-requires : goal.give_security-requires
 give_security-requires c =
     let first = state c.args.book.now in
     let i = c.loop-i.i in
-    let m : i < 64 = omega arith in (
-      c.loop-i.invariant.1,
-      omega (arith, c.get-owner.ensures, c.requires.giver),
+    let m : i < 64 = omega arith in (omega (arith, c.get-owner.ensures, c.requires.giver),
       c.requires.below,
       m,
       rw (c.loop-i.invariant.2, account_ahead c.get-owner.result c.args.e first i, position_ahead c.get-owner.result c.args.e first i, c.get-owner.ensures)
-          (c.requires.room i m),
-    )
+          (c.requires.room i m),)
 
 pub loop-i-preserved : goal.loop-i-preserved
 loop-i-preserved c =
@@ -40,9 +37,6 @@ loop-i-preserved c =
       search rules,
       loop_steps (is_held c.args.e) (security_back owner c.args.e) (held_apart owner c.args.e) (state c.args.book.now) c.loop-i.i c.loop-i.invariant.2 c.give_security.ensures,
     )
-
-pub shape_of-book : goal.shape_of-book
-shape_of-book c = omega arith
 
 pub returns : goal.returns
 returns c =

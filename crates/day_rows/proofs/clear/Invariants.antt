@@ -1,12 +1,10 @@
--- `day_rows::clear` meets its contract: the row holds nothing in the tables below `from + k`.
+-- `day_rows::clear` meets its contract: the tables from `table-index` on are still to come.
 -- Assumes nothing.
 use mathlib.Core.Path.{◌≡◌}
-use Prim.Native.Nat.{◌-◌, ◌≤◌}
-use lib.ListN.{length}
-use Rattle.book.specs.Layout.{book_length}
-use Rattle.book.specs.State.{state}
-use Rattle.day_rows.specs.Parts.{cleared}
+use lib.ListN.{drop}
+use Rattle.book.specs.State.{state, clear_row}
+use Rattle.book.specs.Tables.{numbers_of}
 use Rattle.day_rows.proofs.clear.Given as goal
 
-abbrev pub invariant-loop-k : goal.invariant-loop-k
-invariant-loop-k l = (l.k ≤ l.n) × (length l.book ≡ book_length) × (state l.book ≡ cleared (state l.initial.book) l.k l.from l.i)
+abbrev pub invariant-loop-table : goal.invariant-loop-table
+invariant-loop-table l = clear_row (state l.book) (numbers_of (drop l.table-index l.tables)) l.i ≡ clear_row (state l.initial.book) (numbers_of l.tables) l.i

@@ -2,9 +2,7 @@
 -- Assumes nothing.
 use mathlib.Core.Path.{◌≡◌}
 use Prim.Native.Nat.{◌+◌, ◌-◌, ◌≤◌}
-use lib.ListN.{length}
 use Rattle.laws.specs.Search.{count}
-use Rattle.book.specs.Layout.{book_length}
 use Rattle.book.specs.State.{state}
 use Rattle.rules.specs.DayChange.{row_dropped, on_each}
 use Rattle.day_rows.specs.Parts.{drops}
@@ -12,6 +10,5 @@ use Rattle.day_rows.proofs.drop_rows.Given as goal
 
 abbrev pub invariant-loop-i : goal.invariant-loop-i
 invariant-loop-i l = (l.i ≤ 256)
-    × (length l.book ≡ book_length)
     × (l.dropped + count (drops l.pass (state l.initial.book)) (256 - l.i) l.i ≡ count (drops l.pass (state l.initial.book)) 256 0)
     × (state l.book ≡ on_each (drops l.pass (state l.initial.book)) row_dropped l.i (state l.initial.book))

@@ -14,7 +14,7 @@ returns-then-get-eq0 c = search return_unused
 pub is_exposure_closed-requires : goal.is_exposure_closed-requires
 is_exposure_closed-requires c =
     let near = c.requires.1.named (sym c.get.ensures ∙ c.if-get-ne7.false) in
-    ((omega arith), omega (arith, c.get-3.ensures))
+    omega (arith, c.get-3.ensures)
 
 pub returns : goal.returns
 returns c = search by_exposure

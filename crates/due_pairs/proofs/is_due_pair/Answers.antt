@@ -18,7 +18,7 @@ pub returns-then-get : goal.returns-then-get
 returns-then-get c = search is_whole
 
 pub get-requires-4 : goal.get-requires-4
-get-requires-4 c = (search rules, omega arith, search partner_row)
+get-requires-4 c = search partner_row
 
 pub returns-then-number-get : goal.returns-then-number-get
 returns-then-number-get c = search is_earlier

@@ -18,10 +18,10 @@ free-freed-requires c =
 
 pub give_any_back-moved-requires : goal.give_any_back-moved-requires
 give_any_back-moved-requires c =
-    (c.requires.0.long, excess_gives c.requires.0 c.requires.1 (λ i. (c.slice_known-1.given i).fits) c.get.ensures c.if-get-ne1.false c.row_at-position.ensures c.get-amount.ensures c.free-freed.ensures, free_empty _ _ _ c.free-freed.ensures)
+    (excess_gives c.requires.0 c.requires.1 c.fits-book c.get.ensures c.if-get-ne1.false c.row_at-position.ensures c.get-amount.ensures c.free-freed.ensures, free_empty _ _ _ c.free-freed.ensures)
 
 pub returns : goal.returns
 returns c = (
-  excess_step c.requires.0 c.requires.1 (λ i. (c.slice_known-1.given i).fits) c.get.ensures c.if-get-ne1.false c.row_at-position.ensures c.get-amount.ensures c.free-freed.ensures (c.give_any_back-moved.auto.book ∙ c.requires.0.long) c.give_any_back-moved.ensures,
-  excess_missing c.requires.0 c.requires.1 (λ i. (c.slice_known-1.given i).fits) c.get.ensures c.if-get-ne1.false c.row_at-position.ensures c.get-amount.ensures c.free-freed.ensures c.give_any_back-moved.ensures.0 c.missing_from.ensures,
+  excess_step c.requires.0 c.requires.1 c.fits-book c.get.ensures c.if-get-ne1.false c.row_at-position.ensures c.get-amount.ensures c.free-freed.ensures c.give_any_back-moved.array_long c.give_any_back-moved.ensures,
+  excess_missing c.requires.0 c.requires.1 c.fits-book c.get.ensures c.if-get-ne1.false c.row_at-position.ensures c.get-amount.ensures c.free-freed.ensures c.give_any_back-moved.ensures.0 c.missing_from.ensures,
 )

@@ -17,28 +17,28 @@ use Rattle.mark_steps.proofs.search_missing.Goals.{After-pledge}
 taken_in : (c : After-pledge)
     → Stepped shortfall_in c.args.columns.now c.args.book.now c.pledge.new.book c.args.e 1
 taken_in c =
-    search_step c.requires.0 c.requires.1 (λ i. (c.slice_known-1.given i).fits) c.requires.2 c.if-missing-eq0.false c.pick_for-found.ensures (c.pledge.auto.book ∙ c.requires.0.long)
+    search_step c.requires.0 c.requires.1 c.fits-book c.requires.2 c.if-missing-eq0.false c.pick_for-found.ensures c.pledge.array_long
     (some_pledged (state c.args.book.now) c.args.e c.pick_for-found.result.nominals (sym (pick_empty _ _ _ _ c.pick_for-found.ensures)) (ne_eqb c.pick_for-found.result.count 0 c.if-found-eq0.false) c.pledge.ensures)
 
 pub returns-then-missing-eq0 : goal.returns-then-missing-eq0
 returns-then-missing-eq0 c =
-    (covered_step c.requires.0 c.requires.1 (λ i. (c.slice_known-1.given i).fits) c.requires.2 c.if-missing-eq0.true, c.requires.2)
+    (covered_step c.requires.0 c.requires.1 c.fits-book c.requires.2 c.if-missing-eq0.true, c.requires.2)
 
 pub pick_for-found-requires : goal.pick_for-found-requires
 pick_for-found-requires c =
     let m = c.requires.0 in
-    (m.long, good_pickable _ _ (good_of m (λ i. (c.slice_known-1.given i).fits)) c.requires.1 (lacking_used (state c.args.book.now) c.args.e c.requires.2 c.if-missing-eq0.false), m.securities, c.requires.3)
+    (good_pickable _ _ (good_of m c.fits-book) c.requires.1 (lacking_used (state c.args.book.now) c.args.e c.requires.2 c.if-missing-eq0.false), m.securities, c.requires.3)
 
 pub returns-then-found-eq0 : goal.returns-then-found-eq0
 returns-then-found-eq0 c = (
-  search_step c.requires.0 c.requires.1 (λ i. (c.slice_known-1.given i).fits) c.requires.2 c.if-missing-eq0.false c.pick_for-found.ensures c.requires.0.long
+  search_step c.requires.0 c.requires.1 c.fits-book c.requires.2 c.if-missing-eq0.false c.pick_for-found.ensures c.requires.0.long
       (none_pledged (state c.args.book.now) c.args.e c.pick_for-found.result.nominals (sym (pick_empty _ _ _ _ c.pick_for-found.ensures)) (eq-eqb c.pick_for-found.result.count 0 c.if-found-eq0.true)),
   c.requires.2,
 )
 
 pub pledge-requires : goal.pledge-requires
 pledge-requires c =
-    (c.requires.0.long, found_pledges c.requires.0 c.requires.1 (λ i. (c.slice_known-1.given i).fits) c.requires.2 c.if-missing-eq0.false c.pick_for-found.ensures)
+    found_pledges c.requires.0 c.requires.1 c.fits-book c.requires.2 c.if-missing-eq0.false c.pick_for-found.ensures
 
 pub worth_of-value-requires : goal.worth_of-value-requires
 worth_of-value-requires c =
@@ -48,4 +48,4 @@ worth_of-value-requires c =
 pub returns : goal.returns
 returns c =
     let t = taken_in (goal.at.returns c).After-pledge in
-    (t, search_missing_is c.requires.0 c.requires.1 (λ i. (c.slice_known-1.given i).fits) c.requires.2 c.if-missing-eq0.false c.pick_for-found.ensures t c.row_at-position.ensures c.worth_of-value.ensures c.get-exposure.ensures c.missing_from.ensures)
+    (t, search_missing_is c.requires.0 c.requires.1 c.fits-book c.requires.2 c.if-missing-eq0.false c.pick_for-found.ensures t c.row_at-position.ensures c.worth_of-value.ensures c.get-exposure.ensures c.missing_from.ensures)

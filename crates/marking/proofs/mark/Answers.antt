@@ -11,7 +11,7 @@ use Rattle.marking.proofs.mark.Goals as goal
 
 pub fresh_since-since-requires : goal.fresh_since-since-requires
 fresh_since-since-requires c =
-    ((omega arith), sound_aged (state c.args.book.now) (sound_facts (state c.args.book.now) c.requires), c.columns-columns.ensures)
+    (sound_aged (state c.args.book.now) (sound_facts (state c.args.book.now) c.requires), c.columns-columns.ensures)
 
 pub give_all_ineligible-gave-requires : goal.give_all_ineligible-gave-requires
 give_all_ineligible-gave-requires c =

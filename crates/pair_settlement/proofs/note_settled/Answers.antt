@@ -17,7 +17,7 @@ overflow_add-other c =
 pub set-requires-2 : goal.set-requires-2
 set-requires-2 c =
     let room = partner_room (state c.args.book.now) c.args.i c.args.x c.requires.0 c.get.ensures c.get-other.ensures in
-    (search rules, omega arith, omega (arith, c.get.ensures), omega arith)
+    (omega (arith, c.get.ensures), omega arith)
 
 pub returns : goal.returns
 returns c =

@@ -41,11 +41,11 @@ settles-le c =
     rw (settles c, c.rest_of-rest.ensures) (fop_within (state c.args.book.now) c.args.i)
 
 pub get-exposure-requires : goal.get-exposure-requires
-get-exposure-requires c = (search rules, omega arith, target_below c)
+get-exposure-requires c = target_below c
 
 pub rest_of-rest-requires : goal.rest_of-rest-requires
 rest_of-rest-requires c =
-    (search rules, search rules, (pair_fields c.requires.0 c.requires.1).settled)
+    (search rules, (pair_fields c.requires.0 c.requires.1).settled)
 
 pub overflow_add-exposure : goal.overflow_add-exposure
 overflow_add-exposure c =
@@ -59,12 +59,12 @@ returns-then-exposure-rest-gt-GREATEST_EXPOSURE c =
 
 pub pick_for-outcome-requires : goal.pick_for-outcome-requires
 pick_for-outcome-requires c =
-    (search rules, good_pickable (state c.args.book.now) c.exposure_of_fop-e.result c.requires.0 (target_below (goal.at.pick_for-outcome-requires c).After-exposure_of_fop-e) (target-used (goal.at.pick_for-outcome-requires c).After-exposure_of_fop-e), c.requires.2, c.requires.3)
+    (good_pickable (state c.args.book.now) c.exposure_of_fop-e.result c.requires.0 (target_below (goal.at.pick_for-outcome-requires c).After-exposure_of_fop-e) (target-used (goal.at.pick_for-outcome-requires c).After-exposure_of_fop-e), c.requires.2, c.requires.3)
 
 pub amount_for-x-requires : goal.amount_for-x-requires
 amount_for-x-requires c =
     let st = state c.args.book.now in
-    (search rules, search rules, rw c.pick_for-outcome.ensures (pick_value st c.exposure_of_fop-e.result (eligible_for st c.exposure_of_fop-e.result) c.rest_of-rest.result))
+    (search rules, rw c.pick_for-outcome.ensures (pick_value st c.exposure_of_fop-e.result (eligible_for st c.exposure_of_fop-e.result) c.rest_of-rest.result))
 
 pub returns-then-x-eq0 : goal.returns-then-x-eq0
 returns-then-x-eq0 c =
@@ -77,7 +77,7 @@ overflow_add-exposure-2 c =
 
 pub note_settled-requires : goal.note_settled-requires
 note_settled-requires c =
-    (search rules, settleable c.requires.0 c.requires.1 c.amount_for-x.result (omega (arith, settles-le (goal.at.note_settled-requires c).After-amount_for-x, c.rest_of-rest.ensures)), target_below (goal.at.note_settled-requires c).After-exposure_of_fop-e)
+    (settleable c.requires.0 c.requires.1 c.amount_for-x.result (omega (arith, settles-le (goal.at.note_settled-requires c).After-amount_for-x, c.rest_of-rest.ensures)), target_below (goal.at.note_settled-requires c).After-exposure_of_fop-e)
 
 pub pledge-requires : goal.pledge-requires
 pledge-requires c =
@@ -85,7 +85,7 @@ pledge-requires c =
     let target = c.exposure_of_fop-e.result in
     let x = c.amount_for-x.result in
     let picked : Pledging st target c.pick_for-outcome.result.nominals = rw c.pick_for-outcome.ensures (pick_pledges st target c.requires.0 (target_below (goal.at.pledge-requires c).After-exposure_of_fop-e) (target-used (goal.at.pledge-requires c).After-exposure_of_fop-e) (eligible_for st target) c.rest_of-rest.result) in
-    (search rules, rw c.note_settled.ensures (pledging_noted st c.args.i x target _ picked))
+    rw c.note_settled.ensures (pledging_noted st c.args.i x target _ picked)
 
 pub returns : goal.returns
 returns c =

@@ -22,11 +22,11 @@ settles c =
 
 pub get-exposure-requires : goal.get-exposure-requires
 get-exposure-requires c =
-    (search rules, omega arith, omega (arith, c.get-e.ensures, (return_names_lem c.requires.0 c.requires.1).exposure_below))
+    omega (arith, c.get-e.ensures, (return_names_lem c.requires.0 c.requires.1).exposure_below)
 
 pub rest_of-requires : goal.rest_of-requires
 rest_of-requires c =
-    (search rules, search rules, (pair_fields c.requires.0 c.requires.1).settled)
+    (search rules, (pair_fields c.requires.0 c.requires.1).settled)
 
 pub returns-then-x-eq0 : goal.returns-then-x-eq0
 returns-then-x-eq0 c =
@@ -36,7 +36,7 @@ returns-then-x-eq0 c =
 pub note_settled-requires : goal.note_settled-requires
 note_settled-requires c =
     let row = return_names_lem c.requires.0 c.requires.1 in
-    (search rules, settleable c.requires.0 c.requires.1 c.smaller-x.result (omega (arith, c.smaller-x.ensures, c.rest_of.ensures)), omega (arith, c.get-e.ensures, row.exposure_below))
+    (settleable c.requires.0 c.requires.1 c.smaller-x.result (omega (arith, c.smaller-x.ensures, c.rest_of.ensures)), omega (arith, c.get-e.ensures, row.exposure_below))
 
 pub free_down-requires : goal.free_down-requires
 free_down-requires c =
@@ -44,7 +44,7 @@ free_down-requires c =
     let before = state c.args.book.now in
     let x = c.smaller-x.result in
     let whole : Freeable before c.get-e.result = rw c.get-e.ensures (good_freeable before _ c.requires.0 row.exposure_below row.exposure_used) in
-    (search rules, rw c.note_settled.ensures (freeable_noted before c.args.i x c.get-e.result (c.get-exposure.result - x) whole), rw (c.note_settled.ensures, columns_noted before c.args.i x c.get-e.result (c.get-exposure.result - x)) c.requires.2)
+    (rw c.note_settled.ensures (freeable_noted before c.args.i x c.get-e.result (c.get-exposure.result - x) whole), rw (c.note_settled.ensures, columns_noted before c.args.i x c.get-e.result (c.get-exposure.result - x)) c.requires.2)
 
 pub returns : goal.returns
 returns c =

@@ -23,12 +23,12 @@ bounds-one-i c =
 
 pub give_back-requires : goal.give_back-requires
 give_back-requires c =
-    ((omega arith), one_gives (accepted_recalling c.args.book.now c.args.fields.now (omega arith) c.requires.0 c.requires.1 c.requires.2) (λ i. (c.slice_known-1.given i).fits))
+    ((omega arith), one_gives (accepted_recalling c.args.book.now c.args.fields.now (omega arith) c.requires.0 c.requires.1 c.requires.2) c.fits-book)
 
 pub pledge-requires : goal.pledge-requires
 pledge-requires c = (
   search rules,
-  found_pledges (accepted_recalling c.args.book.now c.args.fields.now (omega arith) c.requires.0 c.requires.1 c.requires.2) (λ i. (c.slice_known-1.given i).fits) c.give_back.ensures c.substitutes-found.ensures,
+  found_pledges (accepted_recalling c.args.book.now c.args.fields.now (omega arith) c.requires.0 c.requires.1 c.requires.2) c.fits-book c.give_back.ensures c.substitutes-found.ensures,
 )
 
 pub returns : goal.returns

@@ -11,7 +11,7 @@ pub returns-then-exposure_with-ne64 : goal.returns-then-exposure_with-ne64
 returns-then-exposure_with-ne64 c = search old_exposure
 
 pub give_exposure-requires : goal.give_exposure-requires
-give_exposure-requires c = (search rules, search entry_fop, search new_row)
+give_exposure-requires c = (search entry_fop, search new_row)
 
 pub returns : goal.returns
 returns c = search new_exposure

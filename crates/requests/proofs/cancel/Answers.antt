@@ -17,7 +17,7 @@ set-requires c =
     search rules
 
 pub cancel_paired-requires : goal.cancel_paired-requires
-cancel_paired-requires c = (search rules, search cancel_pair)
+cancel_paired-requires c = search cancel_pair
 
 pub returns-then-partner-eq0 : goal.returns-then-partner-eq0
 returns-then-partner-eq0 c = (search cancelled_silent, search cancelled_alone)

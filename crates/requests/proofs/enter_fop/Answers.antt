@@ -6,4 +6,4 @@ use borrow.Author.Rules.{rules}
 use Rattle.requests.proofs.enter_fop.Goals as goal
 
 pub enter-requires : goal.enter-requires
-enter-requires c = (search rules, search fop_in_lem, search fop_room)
+enter-requires c = (search fop_in_lem, search fop_room)

@@ -6,4 +6,4 @@ use borrow.Author.Rules.{rules}
 use Rattle.requests.proofs.enter_return.Goals as goal
 
 pub enter-requires : goal.enter-requires
-enter-requires c = (search rules, search return_in_lem, search return_room)
+enter-requires c = (search return_in_lem, search return_room)

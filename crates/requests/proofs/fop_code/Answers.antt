@@ -9,25 +9,25 @@ pub returns-then-fields-get : goal.returns-then-fields-get
 returns-then-fields-get c = search low_amount
 
 pub fop_name_code-name-requires : goal.fop_name_code-name-requires
-fop_name_code-name-requires c = (search rules, search fop_fields, search basket_in_lem)
+fop_name_code-name-requires c = (search fop_fields, search basket_in_lem)
 
 pub returns-then-name-ne0 : goal.returns-then-name-ne0
 returns-then-name-ne0 c = search fop_name
 
 pub taker_code-taker-requires : goal.taker_code-taker-requires
-taker_code-taker-requires c = (search rules, search fop_fields)
+taker_code-taker-requires c = search fop_fields
 
 pub returns-then-taker-ne0 : goal.returns-then-taker-ne0
 returns-then-taker-ne0 c = search fop_taker
 
 pub row_code-row-requires : goal.row_code-row-requires
-row_code-row-requires c = (search rules, search fop_fields)
+row_code-row-requires c = search fop_fields
 
 pub returns-then-row-ne0 : goal.returns-then-row-ne0
 returns-then-row-ne0 c = search fop_rows
 
 pub exposure_code-requires : goal.exposure_code-requires
-exposure_code-requires c = (search rules, search fop_fields)
+exposure_code-requires c = search fop_fields
 
 pub returns : goal.returns
 returns c = search fop_exposure

@@ -6,7 +6,7 @@ use borrow.Author.Rules.{rules}
 use Rattle.requests.proofs.return_code.Goals as goal
 
 pub party_code-party-requires : goal.party_code-party-requires
-party_code-party-requires c = (search rules, search return_fields)
+party_code-party-requires c = search return_fields
 
 pub returns-then-party-ne0 : goal.returns-then-party-ne0
 returns-then-party-ne0 c = search return_party
@@ -15,19 +15,19 @@ pub returns-then-settlement-ne0 : goal.returns-then-settlement-ne0
 returns-then-settlement-ne0 c = search return_settlement
 
 pub taker_code-taker-requires : goal.taker_code-taker-requires
-taker_code-taker-requires c = (search rules, search return_fields)
+taker_code-taker-requires c = search return_fields
 
 pub returns-then-taker-ne0 : goal.returns-then-taker-ne0
 returns-then-taker-ne0 c = search return_taker
 
 pub names_exposure-requires : goal.names_exposure-requires
-names_exposure-requires c = (search rules, search return_fields)
+names_exposure-requires c = search return_fields
 
 pub returns-then-not-names_exposure : goal.returns-then-not-names_exposure
 returns-then-not-names_exposure c = search return_exposure
 
 pub row_code-requires : goal.row_code-requires
-row_code-requires c = (search rules, search return_fields)
+row_code-requires c = search return_fields
 
 pub returns : goal.returns
 returns c = search return_rows

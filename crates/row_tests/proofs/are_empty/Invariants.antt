@@ -5,5 +5,5 @@ use lib.ListN.{length}
 use Rattle.row_tests.proofs.Empty.{Seen}
 use Rattle.row_tests.proofs.are_empty.Given as goal
 
-abbrev pub invariant-loop-k : goal.invariant-loop-k
-invariant-loop-k l = (l.k ≤ length l.bytes) × Seen l.bytes l.k l.seen
+abbrev pub invariant-loop-byte : goal.invariant-loop-byte
+invariant-loop-byte l = (l.byte-index ≤ length l.bytes) × Seen l.bytes l.byte-index l.seen

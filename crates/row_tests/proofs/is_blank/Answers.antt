@@ -1,26 +1,22 @@
--- `row_tests::is_blank` meets its contract: the tables below `f` passed.
+-- `row_tests::is_blank` meets its contract: the test of each table decides.
 -- Assumes nothing.
-use native.Mathlib.Omega.{arith}
-use Rattle.laws.proofs.Least.{loop_fails, loop_passes, loop_ends}
-use Rattle.row_tests.proofs.Returns.{loop_starts}
+use mathlib.Core.Path.{◌∙◌}
+use mathlib.Core.Bool.{Bool}
+use Prim.Native.Nat.{ℕ}
+use lib.Dec.{eqb}
+use borrow.Author.Rules.{rules}
+use borrow.Author.Tests.{tests}
+use Rattle.std.proofs.lemmas.Iterator.{YieldsList-from_slice}
+use Rattle.std.proofs.lemmas.Iterator.Search.{all_from_yields_List}
+use Rattle.book.specs.State.{state}
+use Rattle.book.specs.Tables.{number}
+use Rattle.book.specs.declared.layout.Table.{Table}
+use Rattle.rules.specs.ByRow.{same}
+use Rattle.row_tests.proofs.Named.{all_named}
 use Rattle.row_tests.proofs.is_blank.Goals as goal
 
-pub loop-f-init : goal.loop-f-init
-loop-f-init c = (omega arith, omega arith, search loop_starts)
-
-pub overflow_add-from : goal.overflow_add-from
-overflow_add-from c = omega (arith, c.requires.tables)
-
-pub is_zero-requires : goal.is_zero-requires
-is_zero-requires c =
-    let f = c.loop-f.f in
-    ((omega arith), omega (arith, c.requires.tables), c.requires.row f (omega arith) (omega arith))
-
-pub returns-then-not-is_zero : goal.returns-then-not-is_zero
-returns-then-not-is_zero c = search loop_fails
-
-pub loop-f-preserved : goal.loop-f-preserved
-loop-f-preserved c = (omega arith, omega arith, search loop_passes)
-
 pub returns : goal.returns
-returns c = search loop_ends
+returns c =
+    let test : ℕ → Bool = λ f. eqb (state c.args.book.now f c.args.i) 0 in
+    all_from_yields_List (λ (t : Table). test (number t)) _ _ _ c.all.ensures.ran (YieldsList-from_slice c.args.tables.now cc) (λ x b q k. search (rules, tests))
+    ∙ all_named test c.args.tables.now

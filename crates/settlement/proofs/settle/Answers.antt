@@ -15,20 +15,20 @@ use Rattle.settlement.proofs.settle.Goals.{After-slice_known-1}
 -- the book at the start is good
 good : (c : After-slice_known-1) → Good (state c.args.book.now)
 good c =
-    record { facts = sound_facts (state c.args.book.now) c.requires; fits = state_fits c.args.book.now (omega arith) (λ j. (c.slice_known-1.given j).fits) }
+    record { facts = sound_facts (state c.args.book.now) c.requires; fits = state_fits c.args.book.now (omega arith) c.fits-book }
 
 pub fresh_since-since-requires : goal.fresh_since-since-requires
 fresh_since-since-requires c =
-    (search rules, sound_aged (state c.args.book.now) (sound_facts (state c.args.book.now) c.requires), c.columns-columns.ensures)
+    (sound_aged (state c.args.book.now) (sound_facts (state c.args.book.now) c.requires), c.columns-columns.ensures)
 
 pub settle_pairs-returns-requires : goal.settle_pairs-returns-requires
 settle_pairs-returns-requires c =
-    (search rules, good (goal.at.settle_pairs-returns-requires c).After-slice_known-1, c.columns-columns.ensures, record { fops = omega arith; returns = omega arith; cents = omega arith }, c.fresh_since-since.ensures)
+    (good (goal.at.settle_pairs-returns-requires c).After-slice_known-1, c.columns-columns.ensures, record { fops = omega arith; returns = omega arith; cents = omega arith }, c.fresh_since-since.ensures)
 
 pub settle_pairs-requires : goal.settle_pairs-requires
 settle_pairs-requires c =
     let done = c.settle_pairs-returns.ensures in
-    (search rules, done.good, c.columns-columns.ensures ∙ sym done.prices.columns, record { fops = omega (arith, done.within.fops); returns = omega (arith, done.within.returns); cents = omega (arith, done.within.cents) }, fresh_same done.prices c.fresh_since-since.ensures)
+    (done.good, c.columns-columns.ensures ∙ sym done.prices.columns, record { fops = omega (arith, done.within.fops); returns = omega (arith, done.within.returns); cents = omega (arith, done.within.cents) }, fresh_same done.prices c.fresh_since-since.ensures)
 
 pub returns : goal.returns
 returns c =

@@ -35,7 +35,7 @@ returns-then-kind-eq7 c =
 
 pub settle_fop-x-requires : goal.settle_fop-x-requires
 settle_fop-x-requires c =
-    (search rules, c.requires.0, fop_kind_lem c.requires.0 c.requires.1 c.if-kind-eq7.false, c.requires.2, c.requires.4)
+    (c.requires.0, fop_kind_lem c.requires.0 c.requires.1 c.if-kind-eq7.false, c.requires.2, c.requires.4)
 
 pub returns-then-x-eq0-2 : goal.returns-then-x-eq0-2
 returns-then-x-eq0-2 c =

@@ -20,4 +20,4 @@ set-requires-2 c =
 pub returns : goal.returns
 unfolding opened
 returns c =
-    rw (c.set-3.ensures, c.set-2.ensures, c.set.ensures, c.clear.ensures, zero_state (length c.args.book.now))
+    rw (c.set-3.ensures, c.set-2.ensures, c.set.ensures, c.fill.ensures.after (λ y e. e), zero_state (length c.args.book.now))

@@ -15,7 +15,7 @@ pub returns-then-not-is_sound_exposure : goal.returns-then-not-is_sound_exposure
 returns-then-not-is_sound_exposure c = search loop_fails
 
 pub note_closing-requires : goal.note_closing-requires
-note_closing-requires c = (search rules, search rules, search rules, search passed)
+note_closing-requires c = (search rules, search rules, search passed)
 
 pub loop-e-preserved : goal.loop-e-preserved
 loop-e-preserved c = (omega arith, search loop_passes, search rules)

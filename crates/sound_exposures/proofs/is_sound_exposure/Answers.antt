@@ -1,11 +1,7 @@
 -- `sound_exposures::is_sound_exposure` meets its contract.
 -- Assumes nothing.
-use Rattle.sound_exposures.proofs.Returns.{in_exposures, unused, bad_mark, bad_parties, bad_basket, bad_closing, by_amount}
-use native.Mathlib.Omega.{arith}
+use Rattle.sound_exposures.proofs.Returns.{unused, bad_mark, bad_parties, bad_basket, bad_closing, by_amount}
 use Rattle.sound_exposures.proofs.is_sound_exposure.Goals as goal
-
-pub is_blank-requires : goal.is_blank-requires
-is_blank-requires c = ((omega arith), in_exposures 5 c.args.e (omega arith) c.requires.0)
 
 pub returns-then-used-eq0 : goal.returns-then-used-eq0
 returns-then-used-eq0 c = search unused

@@ -15,7 +15,7 @@ pub returns-then-not-is_sound_row : goal.returns-then-not-is_sound_row
 returns-then-not-is_sound_row c = (search loop_fails, search rules)
 
 pub note_days-requires : goal.note_days-requires
-note_days-requires c = (search rules, omega arith, search rules, search passed)
+note_days-requires c = (omega arith, search rules, search passed)
 
 pub loop-i-preserved : goal.loop-i-preserved
 loop-i-preserved c = (search rules, search rules, omega arith, search loop_passes, search rules, search passed_next)

@@ -9,4 +9,4 @@ pub returns-then-number-eq0 : goal.returns-then-number-eq0
 returns-then-number-eq0 c = search by_blank
 
 pub is_sound_later-requires : goal.is_sound_later-requires
-is_sound_later-requires c = (search rules, search rules, search rules, search later_of)
+is_sound_later-requires c = (search rules, search rules, search later_of)

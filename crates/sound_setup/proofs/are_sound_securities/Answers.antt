@@ -15,7 +15,7 @@ pub returns-then-not-is_sound_security : goal.returns-then-not-is_sound_security
 returns-then-not-is_sound_security c = search loop_fails
 
 pub note_quote-requires : goal.note_quote-requires
-note_quote-requires c = (search rules, search rules, search rules, search passed)
+note_quote-requires c = (search rules, search rules, search passed)
 
 pub loop-i-preserved : goal.loop-i-preserved
 loop-i-preserved c = (omega arith, search loop_passes, search rules)

@@ -13,7 +13,7 @@ pub loop-e-init : goal.loop-e-init
 loop-e-init c = (omega arith, search rules, search held_starts)
 
 pub is_sound_stock-requires : goal.is_sound_stock-requires
-is_sound_stock-requires c = (search rules, search rules, below _ 64 c.loop-e.invariant.1 _ (omega arith), search rules)
+is_sound_stock-requires c = (search rules, below _ 64 c.loop-e.invariant.1 _ (omega arith), search rules)
 
 pub returns-then-not-is_sound_stock : goal.returns-then-not-is_sound_stock
 returns-then-not-is_sound_stock c = judged_ends _ c.is_sound_stock.ensures c.if-not-is_sound_stock.true-raw

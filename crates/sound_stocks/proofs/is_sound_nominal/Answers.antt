@@ -14,12 +14,12 @@ returns-then-not-is_in_lots c = search nominal_not_whole
 
 pub overflow_add-sum : goal.overflow_add-sum
 overflow_add-sum c =
-    let fits = state_fits c.args.book.now (omega arith) (λ j. (c.shared_slice_known-1.given j).fits) in
+    let fits = state_fits c.args.book.now (omega arith) c.fits-book in
     omega (arith, nominal_small (state c.args.book.now) fits c.requires.0 c.requires.1 c.wide.ensures c.get-nominal.ensures)
 
 pub overflow_add-get : goal.overflow_add-get
 overflow_add-get c =
-    let fits = state_fits c.args.book.now (omega arith) (λ j. (c.shared_slice_known-1.given j).fits) in
+    let fits = state_fits c.args.book.now (omega arith) c.fits-book in
     omega (arith, nominal_small (state c.args.book.now) fits c.requires.0 c.requires.1 c.wide.ensures c.get-nominal.ensures, c.get.ensures)
 
 pub returns-then-get-sum-gt-GREATEST_NOMINAL : goal.returns-then-get-sum-gt-GREATEST_NOMINAL

@@ -8,4 +8,4 @@ pub returns-then-amount-eq0 : goal.returns-then-amount-eq0
 returns-then-amount-eq0 c = search no_stock
 
 pub are_sound_nominals-requires : goal.are_sound_nominals-requires
-are_sound_nominals-requires c = (search rules, search stocking, search rules)
+are_sound_nominals-requires c = (search stocking, search rules)

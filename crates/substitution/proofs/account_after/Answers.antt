@@ -5,13 +5,13 @@ use Rattle.substitution.proofs.Accepting.{ranges_of, exposure_in, security_in, g
 use Rattle.substitution.proofs.account_after.Goals as goal
 
 pub get-giver-requires : goal.get-giver-requires
-get-giver-requires c = (c.requires.long, omega arith, exposure_in c.requires)
+get-giver-requires c = exposure_in c.requires
 
 pub overflow_mul-giver : goal.overflow_mul-giver
 overflow_mul-giver c = omega (arith, giver_in_lem c.requires c.get-giver.ensures)
 
 pub row_at-account-requires : goal.row_at-account-requires
-row_at-account-requires c = (c.requires.long, omega arith, omega (arith, giver_in_lem c.requires c.get-giver.ensures))
+row_at-account-requires c = omega (arith, giver_in_lem c.requires c.get-giver.ensures)
 
 pub offset_bounds-account-i : goal.offset_bounds-account-i
 offset_bounds-account-i c = omega (arith, security_in c.requires)

@@ -7,7 +7,7 @@ use Rattle.bonds.proofs.Rows.{bounded, row_within}
 use Rattle.substitution.proofs.is_accepted.Goals as goal
 
 pub get-requires : goal.get-requires
-get-requires c = (c.requires.long, omega arith, exposure_in c.requires)
+get-requires c = exposure_in c.requires
 
 pub overflow_add-after : goal.overflow_add-after
 overflow_add-after c = omega (arith, c.value_after-after.ensures.1, tolerance_in c.requires c.get-2.ensures)
@@ -20,7 +20,7 @@ pub overflow_mul-e : goal.overflow_mul-e
 overflow_mul-e c = omega (arith, exposure_in c.requires)
 
 pub row_at-position-requires : goal.row_at-position-requires
-row_at-position-requires c = (c.requires.long, omega arith, omega (arith, exposure_in c.requires))
+row_at-position-requires c = omega (arith, exposure_in c.requires)
 
 pub worth_of-requires : goal.worth_of-requires
 worth_of-requires c =

@@ -8,7 +8,7 @@ pub overflow_mul-fields : goal.overflow_mul-fields
 overflow_mul-fields c = omega (arith, exposure_in c.requires)
 
 pub row_at-position-requires : goal.row_at-position-requires
-row_at-position-requires c = (c.requires.long, omega arith, omega (arith, exposure_in c.requires))
+row_at-position-requires c = omega (arith, exposure_in c.requires)
 
 pub offset_bounds-position-i : goal.offset_bounds-position-i
 offset_bounds-position-i c = omega (arith, security_in c.requires)

@@ -9,15 +9,15 @@ use Rattle.substitution.proofs.substitutes.Goals as goal
 pub worth_of-value-requires : goal.worth_of-value-requires
 worth_of-value-requires c =
     let k = c.requires in
-    (bounded (book_of k.0 k.1), left_within k.0 (λ i. (c.shared_slice_known-1.given i).fits) c.position_left-left.ensures)
+    (bounded (book_of k.0 k.1), left_within k.0 c.fits-book c.position_left-left.ensures)
 
 pub get-requires : goal.get-requires
-get-requires c = (c.requires.0.long, omega arith, exposure_in c.requires.0)
+get-requires c = exposure_in c.requires.0
 
 pub basket_of-basket-requires : goal.basket_of-basket-requires
 basket_of-basket-requires c =
     let k = c.requires in
-    (k.0.long, exposure_in k.0, basket_below (book_of k.0 k.1) (exposure_in k.0) refl k.0.recallable.used)
+    (exposure_in k.0, basket_below (book_of k.0 k.1) (exposure_in k.0) refl k.0.recallable.used)
 
 pub eligibility_on-x-requires : goal.eligibility_on-x-requires
 eligibility_on-x-requires c =
@@ -27,7 +27,7 @@ eligibility_on-x-requires c =
 pub pick-requires : goal.pick-requires
 pick-requires c =
     let k = c.requires in
-    (bounded (book_of k.0 k.1), after_within k.0 (λ i. (c.shared_slice_known-1.given i).fits) c.account_after-account.ensures)
+    (bounded (book_of k.0 k.1), after_within k.0 c.fits-book c.account_after-account.ensures)
 
 pub returns : goal.returns
 returns c =

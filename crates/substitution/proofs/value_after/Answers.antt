@@ -9,10 +9,10 @@ use Rattle.substitution.proofs.value_after.Goals.{After-position-1}
 
 -- the position after the recall is within its bounds
 new-within : (c : After-position-1) → Within (nominals_of c.add_nominals-position.result)
-new-within c = rw c.add_nominals-position.ensures (sum_within c.requires.0 (λ i. (c.shared_slice_known-1.given i).fits) c.position_left-left.ensures c.substitutes-found.ensures)
+new-within c = rw c.add_nominals-position.ensures (sum_within c.requires.0 c.fits-book c.position_left-left.ensures c.substitutes-found.ensures)
 
 pub add_nominals-position-requires : goal.add_nominals-position-requires
-add_nominals-position-requires c = sum_within c.requires.0 (λ i. (c.shared_slice_known-1.given i).fits) c.position_left-left.ensures c.substitutes-found.ensures
+add_nominals-position-requires c = sum_within c.requires.0 c.fits-book c.position_left-left.ensures c.substitutes-found.ensures
 
 pub worth_of-requires : goal.worth_of-requires
 worth_of-requires c = (bounded (book_of c.requires.0 c.requires.1), new-within c)
