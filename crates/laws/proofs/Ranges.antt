@@ -5,16 +5,23 @@ use mathlib.Core.Bool.{Bool, true, false, not}
 use mathlib.Core.List.{map}
 use mathlib.Core.Logic.{⊎_elim}
 use Prim.Native.Nat.{ℕ, zero, suc, ◌+◌, ◌-◌, ◌≤◌, ◌<◌}
-use native.Mathlib.Nat.{eq-or-lt_of_le}
+use native.Mathlib.Decide.{dec_le}
+use native.Mathlib.Nat.{eq-or-lt_of_le, lt_of_not-le}
 use native.Mathlib.Numerals.{add-one}
 use native.Mathlib.Omega.{arith}
+use lib.Dec.{leb}
+use borrow.Author.Tests.{le-leb, lt-leb}
 use lib.ListN.{length}
 use denote.Ref.{Bor}
 use denote.Param.Members.{Mut}
 use Rattle.std.specs.Prelude.{List, Option, Some, None}
 use Rattle.std.specs.declared.ops.Range.{Range}
 use Rattle.std.specs.Bool.{⊤}
+use Rattle.std.specs.Cmp.{nat_cmp_is}
 use Rattle.std.specs.Fn.{Called, CalledAt}
+use Rattle.std.specs.Ordering.{is_le, nat_cmp}
+use Rattle.std.proofs.Common.{Less, Equal, Greater}
+use Rattle.std.specs.Range.{range_inclusive_start, range_inclusive_end, range_inclusive_exhausted, range_inclusive_contains}
 use Rattle.std.specs.Iterator.{YieldsThen}
 use Rattle.std.specs.List.{FoldsTo, filter, list_all, list_any, range_with_len, sum as list_sum}
 use Rattle.std.specs.Option.{MatchOption, unwrap_or}
@@ -22,7 +29,7 @@ use Rattle.std.proofs.iter.Yields.{nat_range_steps}
 use Rattle.std.proofs.lemmas.Iterator.{YieldsList-from_range, first_from_Range}
 use Rattle.std.proofs.lemmas.Iterator.Search.{all_from_yields_List, any_from_yields_List}
 use Rattle.std.proofs.lemmas.List.Sums.{sum_by-cons}
-use Rattle.laws.specs.Search.{least, count, all}
+use Rattle.laws.specs.Search.{between, least, count, all}
 use Rattle.laws.specs.Sum.{sum}
 use Rattle.laws.proofs.Cases.{either}
 use Rattle.laws.proofs.Least.{least_none, least_hit, least_miss, count_hit, count_miss, count_none, all_hit, all_miss, all_none}
@@ -120,3 +127,19 @@ sum_over_range f n =
     let e : 0 + n ≡ n = omega arith in
     let r = rw e at whole in
     omega (arith, r)
+
+-- ---- `contains` of a range with both ends
+module _ (low high x : ℕ) where
+  le_of_cmp : (a b : ℕ) → is_le (nat_cmp a b) ≡ leb a b
+  le_of_cmp a b = elim (dec_le a b) [
+    | yes h ↦
+        ⊎_elim
+        (λ (e : a ≡ b). ap is_le (sym (nat_cmp_is a b Equal e)) ∙ sym (le-leb a b h))
+        (λ (m : a < b). ap is_le (sym (nat_cmp_is a b Less m)) ∙ sym (le-leb a b h))
+        (eq-or-lt_of_le h)
+    | no n ↦ let m = lt_of_not-le n in ap is_le (sym (nat_cmp_is a b Greater m)) ∙ sym (lt-leb a b m)
+  ]
+
+  pub contains_between : {s : _} {r : Bool} → range_inclusive_start s ≡ low → range_inclusive_end s ≡ high → range_inclusive_exhausted s ≡ false
+      → r ≡ range_inclusive_contains (λ a b. Some (nat_cmp a b)) s x → r ≡ between low high x
+  contains_between {s} {r} p q e h = h ∙ rw (p, q, e, le_of_cmp low x, le_of_cmp x high)
