@@ -2,7 +2,7 @@
 -- Assumes nothing.
 use mathlib.Core.Path.{◌≡◌, refl, sym, ap, ◌∙◌}
 use mathlib.Core.Bool.{Bool, true, false, not}
-use mathlib.Core.List.{map}
+use mathlib.Core.List.{map, [], ◌∷◌}
 use mathlib.Core.Logic.{⊎_elim}
 use Prim.Native.Nat.{ℕ, zero, suc, ◌+◌, ◌-◌, ◌≤◌, ◌<◌}
 use native.Mathlib.Decide.{dec_le}
@@ -11,7 +11,7 @@ use native.Mathlib.Numerals.{add-one}
 use native.Mathlib.Omega.{arith}
 use lib.Dec.{leb}
 use borrow.Author.Tests.{le-leb, lt-leb}
-use lib.ListN.{length}
+use lib.ListN.{length, get_or}
 use denote.Ref.{Bor}
 use denote.Param.Members.{Mut}
 use Rattle.std.specs.Prelude.{List, Option, Some, None}
@@ -143,3 +143,24 @@ module _ (low high x : ℕ) where
   pub contains_between : {s : _} {r : Bool} → range_inclusive_start s ≡ low → range_inclusive_end s ≡ high → range_inclusive_exhausted s ≡ false
       → r ≡ range_inclusive_contains (λ a b. Some (nat_cmp a b)) s x → r ≡ between low high x
   contains_between {s} {r} p q e h = h ∙ rw (p, q, e, le_of_cmp low x, le_of_cmp x high)
+
+-- ---- `all` over the items of a list
+all_shift : (t : ℕ → Bool) (n a : ℕ) → all t n (suc a) ≡ all (λ i. t (suc i)) n a
+all_shift t zero a = all_none t (suc a) ∙ sym (all_none (λ i. t (suc i)) a)
+all_shift t (suc n) a =
+    let u : ℕ → Bool = λ i. t (suc i) in
+    let rest = all_shift t n (suc a) in
+    ⊎_elim
+    (λ (p : t (suc a) ≡ true). all_hit t n (suc a) p ∙ rest ∙ sym (all_hit u n a p))
+    (λ (p : t (suc a) ≡ false). all_miss t n (suc a) p ∙ sym (all_miss u n a p))
+    (either (t (suc a)))
+
+pub list_all_items : (t : ℕ → Bool) (xs : List ℕ) → list_all t xs ≡ all (λ i. t (get_or xs i 0)) (length xs) 0
+list_all_items t [] = sym (all_none (λ i. t (get_or [] i 0)) 0)
+list_all_items t (x ∷ xs) =
+    let u : ℕ → Bool = λ i. t (get_or (x ∷ xs) i 0) in
+    let rest = list_all_items t xs in
+    ⊎_elim
+    (λ (p : t x ≡ true). let e : list_all t (x ∷ xs) ≡ list_all t xs = rw p in e ∙ rest ∙ sym (all_hit u (length xs) 0 p ∙ all_shift u (length xs) 0))
+    (λ (p : t x ≡ false). let e : list_all t (x ∷ xs) ≡ false = rw p in e ∙ sym (all_miss u (length xs) 0 p))
+    (either (t x))
