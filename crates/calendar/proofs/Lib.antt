@@ -1,4 +1,3 @@
-pub mod Answers
 pub mod Fresh
 pub mod Holidays
 pub mod EasterTable

@@ -3,14 +3,15 @@
 #![tactic(auto)]
 
 ghost use Rattle.std.specs.Prelude.{◌≡◌, ◌+◌, ◌≤◌, ◌<◌};
-ghost use Rattle.calendar.specs.Answers.{is_open_answer, next_open_day_answer, age_answer};
+ghost use Rattle.answers.specs.Answers.{coded};
+ghost use Rattle.calendar.specs.Answers.{as_number, is_open_answer, next_open_day_answer, age_answer};
 ghost use Rattle.calendar.specs.Gregorian.{start_of, year_of};
 ghost use Rattle.calendar.specs.Easter.{easter};
 ghost use Rattle.calendar.specs.Fresh.{FreshDays};
 ghost use Rattle.calendar.specs.Target.{easter_holiday, holiday, open_day, next_open_day, age};
 ghost use Rattle.calendar.specs.YearDay.{year_day};
 
-use answers::{BAD_DAY, CodedValue};
+use answers::Refusal;
 
 mod easter;
 
@@ -63,17 +64,11 @@ fn is_easter_holiday(n: u64, k: usize) -> bool
     requires { (n ≤ 366) × (k < 400) }
     ensures { result ≡ easter_holiday (easter (2002 + k)) n }
 {
-    if n < 79 {
+    if !(79..=116).contains(&n) {
         return false;
     }
-    if 116 < n {
-        return false;
-    }
-    let e = easter::easter_of(k) as u64;
-    if n + 2 == e {
-        return true;
-    }
-    n == e + 1
+    let e = u64::from(easter::easter_of(k));
+    n + 2 == e || n == e + 1
 }
 
 // Is the day n of the year 2002 + k, which has so many leap days, a holiday?
@@ -81,33 +76,15 @@ fn is_holiday(n: u64, leap: u64, k: usize) -> bool
     requires { (n ≤ 366) × (leap ≤ 1) × (k < 400) }
     ensures { result ≡ holiday leap (easter (2002 + k)) n }
 {
-    if n == 1 {
-        return true;
-    }
-    if is_easter_holiday(n, k) {
-        return true;
-    }
-    if n == 121 + leap {
-        return true;
-    }
-    if n == 359 + leap {
-        return true;
-    }
-    n == 360 + leap
+    is_easter_holiday(n, k) || [1, 121 + leap, 359 + leap, 360 + leap].contains(&n)
 }
 
 // Is a day open? No day after the last one is.
 pub fn is_open(day: u64) -> bool
     ensures { result ≡ open_day day }
 {
-    if LAST_DAY < day {
-        return false;
-    }
     let weekday = day % 7;
-    if weekday == 4 {
-        return false;
-    }
-    if weekday == 5 {
+    if LAST_DAY < day || weekday == 4 || weekday == 5 {
         return false;
     }
     let d = year_day(day);
@@ -119,14 +96,9 @@ pub fn next_open_day(day: u64) -> u64
     requires { day ≤ 146096 }
     ensures { result ≡ next_open_day day }
 {
-    let mut next = day + 1;
-    while next <= LAST_DAY {
-        if is_open(next) {
-            return next;
-        }
-        next += 1;
-    }
-    next
+    (day + 1..LAST_DAY + 1)
+        .find(|&next| is_open(next))
+        .unwrap_or(LAST_DAY + 1)
 }
 
 // The age of a price: the open days after its quote day up to and including today, 0 where the quote is after today.
@@ -134,15 +106,7 @@ pub fn age_of(quote: u64, today: u64) -> u64
     requires { (quote ≤ 146096) × (today ≤ 146096) }
     ensures { result ≡ age quote today }
 {
-    let mut n: u64 = 0;
-    let mut i = quote + 1;
-    while i <= today {
-        if is_open(i) {
-            n += 1;
-        }
-        i += 1;
-    }
-    n
+    (quote + 1..today + 1).filter(|&day| is_open(day)).count() as u64
 }
 
 // The first day of a fresh price for each greatest age up to `most`. No price is quoted before `from`, and no day before it is looked at.
@@ -152,60 +116,48 @@ pub fn fresh_days(from: u64, today: u64, most: usize) -> [u64; 256]
 {
     let mut days = [0u64; 256];
     let mut age: usize = 0;
-    let mut first = today;
-    while from < first {
+    for before in (from..today).rev() {
         if most < age {
             return days;
         }
-        if is_open(first) {
-            days[age] = first;
+        if is_open(before + 1) {
+            days[age] = before + 1;
             age += 1;
         }
-        first -= 1;
     }
     days
 }
 
-// Is a day open (1) or closed (0)? Code 7 above 146096.
-pub fn calendar_is_open(day: u64) -> CodedValue
-    ensures { result ≡ is_open_answer day }
+// Is a day of the calendar open? Refused above 146096.
+pub fn calendar_is_open(day: u64) -> Result<bool, Refusal>
+    ensures { coded (as_number result) ≡ is_open_answer day }
 {
     if LAST_DAY < day {
-        return answers::refuse(BAD_DAY);
+        return Err(Refusal::BadDay);
     }
-    if is_open(day) {
-        answers::accept(1)
-    } else {
-        answers::accept(0)
-    }
+    Ok(is_open(day))
 }
 
-// The first open day after an open day. Code 7 for a day that is not open, and where there is no next one.
-pub fn calendar_next_open_day(day: u64) -> CodedValue
-    ensures { result ≡ next_open_day_answer day }
+// The first open day after an open day. Refused for a day that is not open, and where there is no next one.
+pub fn calendar_next_open_day(day: u64) -> Result<u64, Refusal>
+    ensures { coded result ≡ next_open_day_answer day }
 {
     if !is_open(day) {
-        return answers::refuse(BAD_DAY);
+        return Err(Refusal::BadDay);
     }
     let next = next_open_day(day);
     if LAST_DAY < next {
-        return answers::refuse(BAD_DAY);
+        return Err(Refusal::BadDay);
     }
-    answers::accept(next)
+    Ok(next)
 }
 
-// The age of a price in open days. Code 7 where a day is not open, or the quote is after today.
-pub fn calendar_price_age(quote: u64, today: u64) -> CodedValue
-    ensures { result ≡ age_answer quote today }
+// The age of a price in open days. Refused where a day is not open, or the quote is after today.
+pub fn calendar_price_age(quote: u64, today: u64) -> Result<u64, Refusal>
+    ensures { coded result ≡ age_answer quote today }
 {
-    if !is_open(quote) {
-        return answers::refuse(BAD_DAY);
+    if !is_open(quote) || !is_open(today) || today < quote {
+        return Err(Refusal::BadDay);
     }
-    if !is_open(today) {
-        return answers::refuse(BAD_DAY);
-    }
-    if today < quote {
-        return answers::refuse(BAD_DAY);
-    }
-    answers::accept(age_of(quote, today))
+    Ok(age_of(quote, today))
 }

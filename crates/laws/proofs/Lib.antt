@@ -7,6 +7,7 @@ pub mod Least
 pub mod Lists
 pub mod Numbers
 pub mod Patches
+pub mod Ranges
 pub mod Sum
 pub mod Table
 pub mod Tests

@@ -21,34 +21,6 @@ use Rattle.securities.specs.Bounds.{InBounds, AllInBounds, Within}
 use Rattle.securities.specs.Position.{nominals_of, legal_nominal_at, legal_nominals}
 
 module _ (s : Security) where
-  -- a security that is not set up is legal where it has no other number either
-  pub blank : s.lot ≡ 0 → s.pricing.price ≡ 0 → s.pricing.haircut ≡ 0 → eqb s.quote 0 ≡ legal_security s
-  unfolding legal_security
-  blank l p h =
-      let none : leb 1 s.lot ≡ false = lt-leb 1 s.lot (omega arith) in
-      rw (eq-eqb s.lot 0 l, eq-eqb s.pricing.price 0 p, eq-eqb s.pricing.haircut 0 h, none, or-false)
-
-  pub blank_price : s.lot ≡ 0 → (s.pricing.price ≡ 0 → ⊥) → false ≡ legal_security s
-  unfolding legal_security
-  blank_price l p =
-      let none : leb 1 s.lot ≡ false = lt-leb 1 s.lot (omega arith) in
-      rw (ne_eqb s.pricing.price 0 p, and-false, none)
-
-  pub blank_haircut : s.lot ≡ 0 → (s.pricing.haircut ≡ 0 → ⊥) → false ≡ legal_security s
-  unfolding legal_security
-  blank_haircut l p =
-      let none : leb 1 s.lot ≡ false = lt-leb 1 s.lot (omega arith) in
-      rw (ne_eqb s.pricing.haircut 0 p, and-false, and-false, none)
-
-  -- one that is set up is legal by its lot and pricing
-  pub large_lot : (s.lot ≡ 0 → ⊥) → 1000000 < s.lot → false ≡ legal_security s
-  unfolding legal_security
-  large_lot l h = rw (ne_eqb s.lot 0 l, lt-leb s.lot 1000000 h, and-false)
-
-  pub by_pricing : {b : Bool} → (s.lot ≡ 0 → ⊥) → s.lot ≤ 1000000 → b ≡ legal_pricing s.pricing → b ≡ legal_security s
-  unfolding legal_security
-  by_pricing l h e = rw (ne_eqb s.lot 0 l, le-leb 1 s.lot (omega arith), le-leb s.lot 1000000 h) e
-
   module _ (today : ℕ) where
     pub no_quote : s.lot ≡ 0 → true ≡ legal_quote today s
     unfolding legal_quote

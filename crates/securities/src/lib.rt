@@ -1,5 +1,6 @@
 // The 64 securities of the desk by their numbers, and what a position in them is worth.
 // They come as four columns of 64 numbers: lots, prices, haircuts, quote days. A lot of 0 is a security not set up.
+// The columns stay in one array: C lends them so to picking, and the reader of a book fills the same.
 #![tactic(auto)]
 
 ghost use Rattle.std.specs.Prelude.{◌≡◌, ◌<◌, ◌≤◌, true};
@@ -52,31 +53,17 @@ pub fn worth_of(nominals: &[u64; 64], columns: &[u64; 256]) -> u64
     requires { AllInBounds columns.now × Within (nominals_of nominals.now) }
     ensures { result ≡ worth columns.now (nominals_of nominals.now) }
 {
-    let mut cents: u64 = 0;
-    for i in 0..64 {
-        cents += value_at(nominals, columns, i);
-    }
-    cents
+    (0..64).map(|i| value_at(nominals, columns, i)).sum()
 }
 
 // Are a host's numbers of a security in their ranges?
 fn is_legal(s: Security) -> bool
     ensures { result ≡ legal_security s }
 {
-    let pricing = s.pricing;
     if s.lot == 0 {
-        if pricing.price != 0 {
-            return false;
-        }
-        if pricing.haircut != 0 {
-            return false;
-        }
-        return s.quote == 0;
+        return s.pricing.price == 0 && s.pricing.haircut == 0 && s.quote == 0;
     }
-    if GREATEST_LOT < s.lot {
-        return false;
-    }
-    valuation::is_legal(pricing)
+    s.lot <= GREATEST_LOT && valuation::is_legal(s.pricing)
 }
 
 // Is a host's quote day open and not after today, where the security is set up? Today is open.
@@ -84,16 +71,10 @@ fn is_quoted(today: u64, s: Security) -> bool
     requires { open_day today ≡ true }
     ensures { result ≡ legal_quote today s }
 {
-    if s.lot == 0 {
+    if s.lot == 0 || s.quote == today {
         return true;
     }
-    if s.quote == today {
-        return true;
-    }
-    if today < s.quote {
-        return false;
-    }
-    calendar::is_open(s.quote)
+    s.quote < today && calendar::is_open(s.quote)
 }
 
 fn is_legal_at(columns: &[u64; 256], i: usize) -> bool
@@ -107,12 +88,7 @@ fn is_legal_at(columns: &[u64; 256], i: usize) -> bool
 pub fn are_legal(columns: &[u64; 256]) -> bool
     ensures { result ≡ legal_securities columns.now }
 {
-    for i in 0..64 {
-        if !is_legal_at(columns, i) {
-            return false;
-        }
-    }
-    true
+    (0..64).all(|i| is_legal_at(columns, i))
 }
 
 fn is_quoted_at(today: u64, columns: &[u64; 256], i: usize) -> bool
@@ -127,29 +103,12 @@ pub fn are_quoted(today: u64, columns: &[u64; 256]) -> bool
     requires { open_day today ≡ true }
     ensures { result ≡ legal_quotes today columns.now }
 {
-    for i in 0..64 {
-        if !is_quoted_at(today, columns, i) {
-            return false;
-        }
-    }
-    true
-}
-
-fn is_nominal_at(nominals: &[u64; 64], i: usize) -> bool
-    requires { i < 64 }
-    ensures { result ≡ legal_nominal_at nominals.now i }
-{
-    nominals[i] <= GREATEST_NOMINAL
+    (0..64).all(|i| is_quoted_at(today, columns, i))
 }
 
 // Are all of a host's nominals at most 500,000,000?
 pub fn are_nominals(nominals: &[u64; 64]) -> bool
     ensures { result ≡ legal_nominals nominals.now }
 {
-    for i in 0..64 {
-        if !is_nominal_at(nominals, i) {
-            return false;
-        }
-    }
-    true
+    nominals.iter().all(|&nominal| nominal <= GREATEST_NOMINAL)
 }

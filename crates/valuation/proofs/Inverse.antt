@@ -1,10 +1,11 @@
 -- The largest nominal worth no more than an amount: what it says of each nominal, and that one division finds it.
 -- Assumes nothing.
-use mathlib.Core.Path.{◌≡◌}
+use mathlib.Core.Path.{◌≡◌, ◌∙◌}
 use mathlib.Core.Bool.{Bool, true, false}
 use mathlib.Core.Logic.{inr}
-use Prim.Native.Nat.{ℕ, ◌+◌, ◌*◌, ◌-◌, ◌/◌, ◌≤◌, ◌<◌}
-use native.Mathlib.Nat.{le_refl, mul_assoc, mul-le-mul, mul-pos, lt_of_lt_of_le, le-div_iff_mul-le, div-lt_iff_lt-mul}
+use Prim.Native.Nat.{ℕ, ◌+◌, ◌*◌, ◌-◌, ◌/◌, ◌≤◌, ◌<◌, min}
+use native.Mathlib.Decide.{dec_le}
+use native.Mathlib.Nat.{le_refl, lt_of_not-le, mul_assoc, mul-le-mul, mul-pos, lt_of_lt_of_le, le-div_iff_mul-le, div-lt_iff_lt-mul}
 use native.Mathlib.Omega.{arith}
 use lib.Dec.{leb, leb-zero}
 use borrow.Author.Tests.{leb-true, leb-false, le-leb, lt-leb}
@@ -62,17 +63,24 @@ module _ (t : Pricing) (cents : ℕ) where
         let e : n * t.price * (10000 - t.haircut) ≡ n * unit = mul_assoc n t.price (10000 - t.haircut) in
         lt-leb (value t n) cents (omega (arith, h, e))
 
-    pub by_division : top / unit ≤ 500000000 → top / unit ≡ nominal_within t cents
+    by_division : top / unit ≤ 500000000 → top / unit ≡ nominal_within t cents
     unfolding nominal_within Falling
     by_division h =
         largest_unique within 500000000 (top / unit) h
         (inr (within_unit (top / unit) ((le-div_iff_mul-le p).0 (le_refl (top / unit)))))
         (λ j l m. within_falls (top / unit + 1) j (omega arith) (above_unit (top / unit + 1) ((div-lt_iff_lt-mul p).0 (omega arith))))
 
-    pub by_division_all : 500000000 ≤ top / unit → 500000000 ≡ nominal_within t cents
+    by_division_all : 500000000 ≤ top / unit → 500000000 ≡ nominal_within t cents
     unfolding nominal_within
     by_division_all h =
         largest_unique within 500000000 500000000 (le_refl 500000000) (inr (within_unit 500000000 ((le-div_iff_mul-le p).0 h))) (λ j l m. absurd (omega arith))
+
+    -- the quotient or the greatest nominal, whichever is less
+    pub by_min : min (top / unit) 500000000 ≡ nominal_within t cents
+    by_min = elim (dec_le (top / unit) 500000000) [
+      | yes h ↦ let e : min (top / unit) 500000000 ≡ top / unit = omega arith in e ∙ by_division h
+      | no n ↦ let e : min (top / unit) 500000000 ≡ 500000000 = omega (arith, lt_of_not-le n) in e ∙ by_division_all (omega (arith, lt_of_not-le n))
+    ]
 
 -- the divisor is not 0
 pub unit_pos : (t : Pricing) → 1 ≤ t.price → Bounded t → 0 < t.price * (10000 - t.haircut)

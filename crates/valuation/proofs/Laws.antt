@@ -1,12 +1,12 @@
 -- Laws of a value: what the layers above use in the place of its text.
 -- Assumes nothing.
-use mathlib.Core.Path.{◌≡◌, sym, ◌∙◌}
-use mathlib.Core.Bool.{Bool, true, false, not, ◌&&◌}
+use mathlib.Core.Path.{◌≡◌}
+use mathlib.Core.Bool.{Bool, true, ◌&&◌}
 use Prim.Native.Nat.{ℕ, ◌*◌, ◌-◌, ◌/◌, ◌≤◌, ◌<◌}
 use native.Mathlib.Nat.{mul-le-mul, mul-le-mul_right, zero-mul, le_trans, le-div_iff_mul-le, div-mul-le_self}
 use native.Mathlib.Omega.{arith}
 use lib.Dec.{lit<, leb}
-use borrow.Author.Tests.{leb-true, not-false}
+use borrow.Author.Tests.{leb-true}
 use Rattle.valuation.specs.declared.Pricing.{Pricing}
 use Rattle.laws.proofs.Cases.{and_left, and_right}
 use Rattle.valuation.specs.Value.{value, legal_pricing}
@@ -45,6 +45,3 @@ module _ (t : Pricing) where
         price_le = leb-true t.price 3000000 (and_left (leb t.price 3000000) (leb t.haircut 9999) rest);
         haircut_le = leb-true t.haircut 9999 (and_right (leb t.price 3000000) (leb t.haircut 9999) rest);
       }
-
-  pub legal_pricing_lem : {b : Bool} → b ≡ legal_pricing t → not b ≡ false → Bounded t
-  legal_pricing_lem {b} e f = legal_bounded (sym e ∙ not-false b f)

@@ -1,3 +1,2 @@
 pub mod Inverse
 pub mod Laws
-pub mod Legal

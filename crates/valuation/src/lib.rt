@@ -2,11 +2,12 @@
 #![tactic(auto)]
 
 ghost use Rattle.std.specs.Prelude.{◌≡◌, ◌≤◌};
+ghost use Rattle.answers.specs.Answers.{coded};
 ghost use Rattle.limits.specs.Limits.{greatest_nominal};
 ghost use Rattle.valuation.specs.Value.{value, legal_pricing, valued};
 ghost use Rattle.valuation.specs.Inverse.{Bounded, nominal_within};
 
-use answers::{CodedValue, OUT_OF_RANGE};
+use answers::Refusal;
 use limits::{GREATEST_HAIRCUT, GREATEST_NOMINAL, GREATEST_PRICE};
 
 // What the value of a nominal depends on: the price (1,000,000 is par) and the haircut in hundredths of a percent.
@@ -33,36 +34,23 @@ pub fn nominal_within(cents: u64, pricing: Pricing) -> u64
         return GREATEST_NOMINAL;
     }
     let n = (cents * 100000000 + 99999999) / (pricing.price * (10000 - pricing.haircut));
-    if n < GREATEST_NOMINAL {
-        n
-    } else {
-        GREATEST_NOMINAL
-    }
+    n.min(GREATEST_NOMINAL)
 }
 
 // Are price and haircut in their ranges?
 pub fn is_legal(pricing: Pricing) -> bool
     ensures { result ≡ legal_pricing pricing }
 {
-    if pricing.price < 1 {
-        return false;
-    }
-    if GREATEST_PRICE < pricing.price {
-        return false;
-    }
-    pricing.haircut <= GREATEST_HAIRCUT
+    (1..=GREATEST_PRICE).contains(&pricing.price) && pricing.haircut <= GREATEST_HAIRCUT
 }
 
-// The value in cents, for any numbers: code 4 where one is out of its range.
-pub fn valuation_value(nominal: u64, price: u64, haircut: u64) -> CodedValue
-    ensures { result ≡ valued nominal (record { price = price; haircut = haircut }) }
+// The value in cents, for any numbers: refused where one is out of its range.
+pub fn valuation_value(nominal: u64, price: u64, haircut: u64) -> Result<u64, Refusal>
+    ensures { coded result ≡ valued nominal (record { price = price; haircut = haircut }) }
 {
     let pricing = Pricing { price, haircut };
-    if GREATEST_NOMINAL < nominal {
-        return answers::refuse(OUT_OF_RANGE);
+    if GREATEST_NOMINAL < nominal || !is_legal(pricing) {
+        return Err(Refusal::OutOfRange);
     }
-    if !is_legal(pricing) {
-        return answers::refuse(OUT_OF_RANGE);
-    }
-    answers::accept(value_of(nominal, pricing))
+    Ok(value_of(nominal, pricing))
 }

@@ -1,30 +1,34 @@
--- `calendar::fresh_days` meets its contract: the ages below that of `first` have their first fresh day.
+-- `calendar::fresh_days` meets its contract: the ages below that of the day `before` have their first fresh day.
 -- Assumes nothing.
-use Prim.Native.Nat.{◌<◌}
-use mathlib.Core.Path.{sym, ◌∙◌}
+use Prim.Native.Nat.{◌+◌, ◌-◌, ◌<◌}
+use mathlib.Core.Path.{◌≡◌, sym, ◌∙◌}
 use native.Mathlib.Omega.{arith}
 use borrow.Author.Rules.{rules}
 use lib.ListN.{length, length-set}
 use Rattle.calendar.proofs.Fresh.{walked_starts, walked_shut, walked_open, walked_all, walked_most}
 use Rattle.calendar.proofs.fresh_days.Goals as goal
-use Rattle.calendar.proofs.fresh_days.Goals.{then-is_open, else-is_open}
 
-pub loop-first-init : goal.loop-first-init
-loop-first-init c = (omega arith, search rules, walked_starts _ 256)
+pub loop-before-init : goal.loop-before-init
+loop-before-init c = (omega arith, search rules, walked_starts _ 256)
 
 pub returns-then-most-age : goal.returns-then-most-age
-returns-then-most-age c =
-    walked_most c.loop-first.invariant.2 c.args.from c.args.most c.if-most-age.true
+returns-then-most-age c = walked_most c.loop-before.invariant.2 c.args.from c.args.most c.if-most-age.true
 
-pub loop-first-preserved : goal.loop-first-preserved
-loop-first-preserved c =
-    let i = c.loop-first.invariant in
-    let later : 0 < c.loop-first.first = omega arith in
-    let fits : c.loop-first.age < length c.loop-first.days = omega arith in
-    elim c.if-is_open.branch [
-      | then-is_open w ↦ (omega arith, rw w.days-is (simp length-set i.1), rw (w.days-is, w.age-is) (walked_open i.2 later fits (sym c.is_open.ensures ∙ w.if-is_open.true)))
-      | else-is_open w ↦ (omega arith, rw w.days-is i.1, rw (w.days-is, w.age-is) (walked_shut i.2 later (sym c.is_open.ensures ∙ w.if-is_open.false)))
-    ]
+pub loop-before-preserved-then-is_open : goal.loop-before-preserved-then-is_open
+loop-before-preserved-then-is_open c =
+    let i = c.loop-before.invariant in
+    let later : 0 < c.loop-before.before = omega arith in
+    let fits : c.loop-before.age < length c.loop-before.days = omega arith in
+    let day : c.loop-before.before - 1 + 1 ≡ c.loop-before.before = omega arith in
+    let is-open = rw day at (sym c.is_open.ensures ∙ c.if-is_open.true) in
+    (omega arith, simp length-set i.1, rw day (walked_open i.2 later fits is-open))
+
+pub loop-before-preserved : goal.loop-before-preserved
+loop-before-preserved c =
+    let i = c.loop-before.invariant in
+    let later : 0 < c.loop-before.before = omega arith in
+    let day : c.loop-before.before - 1 + 1 ≡ c.loop-before.before = omega arith in
+    (i.0, i.1, walked_shut i.2 later (rw day at (sym c.is_open.ensures ∙ c.if-is_open.false)))
 
 pub returns : goal.returns
-returns c = walked_all c.loop-first.invariant.2 c.args.from c.args.most c.loop-first-test.false
+returns c = walked_all c.loop-before.invariant.2 c.args.from c.args.most c.loop-before-test.false

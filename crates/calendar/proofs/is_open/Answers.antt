@@ -9,18 +9,15 @@ use Rattle.calendar.specs.Target.{open_day}
 use Rattle.calendar.specs.YearDay.{year_day}
 use Rattle.calendar.proofs.Years.{year_le, leap_le, day_le}
 use Rattle.calendar.proofs.is_open.Goals as goal
+use Rattle.calendar.proofs.is_open.Goals.{then-day-gt-LAST_DAY-via-then-day-gt-LAST_DAY, then-day-gt-LAST_DAY-via-else-day-gt-LAST_DAY+then-weekday-eq4, then-day-gt-LAST_DAY-via-else-day-gt-LAST_DAY+else-weekday-eq4+then-weekday-eq5}
 
 pub returns-then-day-gt-LAST_DAY : goal.returns-then-day-gt-LAST_DAY
 unfolding open_day
-returns-then-day-gt-LAST_DAY c = simp (lt-ltb _ _ c.if-day-gt-LAST_DAY.true)
-
-pub returns-then-weekday-eq4 : goal.returns-then-weekday-eq4
-unfolding open_day
-returns-then-weekday-eq4 c = simp (eq-eqb _ _ c.if-weekday-eq4.true, or-true)
-
-pub returns-then-weekday-eq5 : goal.returns-then-weekday-eq5
-unfolding open_day
-returns-then-weekday-eq5 c = simp (eq-eqb _ _ c.if-weekday-eq5.true, or-true)
+returns-then-day-gt-LAST_DAY c = elim c.then-day-gt-LAST_DAY.branch [
+  | then-day-gt-LAST_DAY-via-then-day-gt-LAST_DAY w ↦ simp (lt-ltb _ _ w.if-day-gt-LAST_DAY.true)
+  | then-day-gt-LAST_DAY-via-else-day-gt-LAST_DAY+then-weekday-eq4 w ↦ simp (eq-eqb _ _ w.if-weekday-eq4.true, or-true)
+  | then-day-gt-LAST_DAY-via-else-day-gt-LAST_DAY+else-weekday-eq4+then-weekday-eq5 w ↦ simp (eq-eqb _ _ w.if-weekday-eq5.true, or-true)
+]
 
 pub is_holiday-requires : goal.is_holiday-requires
 unfolding year_day

@@ -1,18 +1,9 @@
--- `securities::are_legal` meets its contract: those below `i` passed.
+-- `securities::are_legal` meets its contract.
 -- Assumes nothing.
-use mathlib.Core.Path.{refl}
-use native.Mathlib.Omega.{arith}
-use Rattle.laws.proofs.Least.{loop_fails, loop_passes, loop_ends}
+use borrow.Author.Rules.{rules}
+use Rattle.laws.proofs.Ranges.{all_over_range}
+use Rattle.securities.specs.Security.{legal_at}
 use Rattle.securities.proofs.are_legal.Goals as goal
 
-pub loop-i-init : goal.loop-i-init
-loop-i-init c = (omega arith, record { decides = refl })
-
-pub returns-then-not-is_legal_at : goal.returns-then-not-is_legal_at
-returns-then-not-is_legal_at c = search loop_fails
-
-pub loop-i-preserved : goal.loop-i-preserved
-loop-i-preserved c = (omega arith, search loop_passes)
-
 pub returns : goal.returns
-returns c = search loop_ends
+returns c = all_over_range (legal_at c.args.columns.now) _ _ _ c.all.ensures.ran (λ x b q k. search rules)

@@ -1,35 +1,30 @@
--- `securities::worth_of` meets its contract: the sum is that of the securities below `i`.
+-- `securities::worth_of` meets its contract.
 -- Assumes nothing.
-use mathlib.Core.Path.{◌≡◌, refl}
-use Prim.Native.Nat.{ℕ, ◌+◌}
+use Prim.Native.Nat.{◌*◌, ◌≤◌}
+use mathlib.Core.Path.{◌≡◌, refl, ◌∙◌}
 use native.Mathlib.Omega.{arith}
-use Rattle.laws.specs.Sum.{sum}
-use Rattle.laws.proofs.Sum.{sum_next}
-use Rattle.securities.specs.Position.{worth, nominals_of}
-use Rattle.securities.proofs.Positions.{value_at_le, sum_worth_le}
+use borrow.Author.Rules.{rules}
+use Rattle.std.proofs.lemmas.Iterator.{YieldsList-from_range, YieldsList-from_map}
+use Rattle.std.proofs.lemmas.Iterator.Consumers.{YieldsList-at, sum_from_yields_List, fits_from_yields_list}
+use Rattle.laws.proofs.Ranges.{sum_over_range}
+use Rattle.securities.specs.Position.{worth, value_at, nominals_of}
+use Rattle.securities.proofs.Positions.{sum_worth_le}
 use Rattle.securities.proofs.worth_of.Goals as goal
 
--- one more of a sum
-more : (f : ℕ → ℕ) (i : ℕ) {s v : ℕ} → s ≡ sum f i → v ≡ f i → s + v ≡ sum f (i + 1)
-more f i p q = rw (sum_next, p, q)
-
-pub loop-i-init : goal.loop-i-init
-unfolding sum
-loop-i-init c = (omega arith, refl)
-
-pub overflow_add-cents : goal.overflow_add-cents
-overflow_add-cents c =
+-- what the chain gives, and that its sum fits
+pub sum-requires-clause-fits : goal.sum-requires-clause-fits
+sum-requires-clause-fits c =
     let n = nominals_of c.args.nominals.now in
-    let at = value_at_le c.args.columns.now c.requires.0 n c.requires.1 c.loop-i.i (omega arith) in
-    let below = sum_worth_le c.args.columns.now c.requires.0 n c.requires.1 c.loop-i.i c.loop-i.invariant.0 in
-    omega (arith, c.loop-i.invariant.1)
-
-pub loop-i-preserved : goal.loop-i-preserved
-loop-i-preserved c =
-    (omega arith, search more)
+    let f = value_at c.args.columns.now n in
+    let most = sum_worth_le c.args.columns.now c.requires.0 n c.requires.1 64 (omega arith) in
+    fits_from_yields_list _ _
+      (YieldsList-from_map _ f (YieldsList-from_range 0 64 64 c.map.ensures.source refl) c.map.ensures.closure (λ x b q k. search rules))
+      (omega (arith, most, sum_over_range f 64))
 
 pub returns : goal.returns
 unfolding worth
 returns c =
-    let e : c.loop-i.i ≡ 64 = omega arith in
-    rw e at c.loop-i.invariant.1
+    let f = value_at c.args.columns.now (nominals_of c.args.nominals.now) in
+    sum_from_yields_List _ _ c.sum.ensures.ran
+      (YieldsList-from_map _ f (YieldsList-from_range 0 64 64 c.map.ensures.source refl) c.map.ensures.closure (λ x b q k. search rules))
+    ∙ sum_over_range f 64

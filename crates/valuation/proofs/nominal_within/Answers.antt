@@ -1,8 +1,8 @@
 -- `valuation::nominal_within` meets its contract: no nominal passes a large amount, and below it one division is the answer.
 -- Assumes nothing.
-use native.Mathlib.Nat.{le_of_lt}
+use mathlib.Core.Path.{◌∙◌}
 use native.Mathlib.Omega.{arith}
-use Rattle.valuation.proofs.Inverse.{large_amount, by_division, by_division_all, unit_pos, unit_le}
+use Rattle.valuation.proofs.Inverse.{large_amount, by_min, unit_pos, unit_le}
 use Rattle.valuation.proofs.nominal_within.Goals as goal
 
 pub returns-then-cents-ge150000000000 : goal.returns-then-cents-ge150000000000
@@ -15,8 +15,5 @@ overflow_mul-n-2 c =
 pub nonzero_div-n : goal.nonzero_div-n
 nonzero_div-n c = search unit_pos
 
-pub returns-then-n-lt-GREATEST_NOMINAL : goal.returns-then-n-lt-GREATEST_NOMINAL
-returns-then-n-lt-GREATEST_NOMINAL c = search (by_division, unit_pos, le_of_lt)
-
-pub returns-else-n-lt-GREATEST_NOMINAL : goal.returns-else-n-lt-GREATEST_NOMINAL
-returns-else-n-lt-GREATEST_NOMINAL c = search (by_division_all, unit_pos)
+pub returns : goal.returns
+returns c = c.min.ensures ∙ by_min _ _ (unit_pos _ c.requires.0 c.requires.1)

@@ -1,18 +1,19 @@
 -- `valuation::valuation_value` meets its contract.
 -- Assumes nothing.
+use mathlib.Core.Bool.{and-false}
 use borrow.Author.Rules.{rules}
-use Rattle.valuation.proofs.Laws.{legal_pricing_lem}
-use Rattle.valuation.proofs.Legal.{large_nominal, illegal_pricing, legal_value}
+use borrow.Author.Tests.{tests}
+use Rattle.valuation.specs.Value.{valued}
 use Rattle.valuation.proofs.valuation_value.Goals as goal
+use Rattle.valuation.proofs.valuation_value.Goals.{then-nominal-gt-GREATEST_NOMINAL-via-then-nominal-gt-GREATEST_NOMINAL, then-nominal-gt-GREATEST_NOMINAL-via-else-nominal-gt-GREATEST_NOMINAL+then-not-is_legal}
 
 pub returns-then-nominal-gt-GREATEST_NOMINAL : goal.returns-then-nominal-gt-GREATEST_NOMINAL
-returns-then-nominal-gt-GREATEST_NOMINAL c = search large_nominal
-
-pub returns-then-not-is_legal : goal.returns-then-not-is_legal
-returns-then-not-is_legal c = search illegal_pricing
-
-pub value_of-requires : goal.value_of-requires
-value_of-requires c = (search rules, search legal_pricing_lem)
+unfolding valued
+returns-then-nominal-gt-GREATEST_NOMINAL c = elim c.then-nominal-gt-GREATEST_NOMINAL.branch [
+  | then-nominal-gt-GREATEST_NOMINAL-via-then-nominal-gt-GREATEST_NOMINAL w ↦ search (rules, tests)
+  | then-nominal-gt-GREATEST_NOMINAL-via-else-nominal-gt-GREATEST_NOMINAL+then-not-is_legal w ↦ search (rules, tests, and-false)
+]
 
 pub returns : goal.returns
-returns c = search legal_value
+unfolding valued
+returns c = search (rules, tests)
