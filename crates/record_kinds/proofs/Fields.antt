@@ -109,14 +109,3 @@ module _ (k j : ℕ) {at : ℕ} {f : Field} (here : at ≡ offset_of k j) (it : 
 
   pub place_fits : j < places → Fits w64 (at + f.bytes)
   place_fits l = omega (arith, place_next, start_le k (j + 1))
-
--- a number that is at least n and not n
-step : {k : ℕ} (n : ℕ) → n ≤ k → (k ≡ n → ⊥) → n + 1 ≤ k
-step n l h = omega arith
-
--- a kind that is none of the first twelve
-pub last_kind : {k : ℕ} → k < kind_count → (k ≡ 0 → ⊥) → (k ≡ 1 → ⊥) → (k ≡ 2 → ⊥) → (k ≡ 3 → ⊥) → (k ≡ 4 → ⊥) → (k ≡ 5 → ⊥) → (k ≡ 6 → ⊥) → (k ≡ 7 → ⊥) → (k ≡ 8 → ⊥) → (k ≡ 9 → ⊥) → (k ≡ 10 → ⊥) → (k ≡ 11 → ⊥) → k ≡ 12
-last_kind {k} l n0 n1 n2 n3 n4 n5 n6 n7 n8 n9 n10 n11 =
-    let six : 6 ≤ k = step 5 (step 4 (step 3 (step 2 (step 1 (step 0 (omega arith) n0) n1) n2) n3) n4) n5 in
-    let twelve : 12 ≤ k = step 11 (step 10 (step 9 (step 8 (step 7 (step 6 six n6) n7) n8) n9) n10) n11 in
-    omega (arith, l, twelve)

@@ -5,15 +5,66 @@
 
 ghost use Rattle.std.specs.Prelude.{◌≡◌, map, ◌<◌};
 ghost use Rattle.record_kinds.specs.Kinds.{places, field_of, length_of};
-ghost use Rattle.record_kinds.specs.Typed.{kind_count, typed, row};
+ghost use Rattle.record_kinds.specs.Numbered.{kind_number, Names};
+ghost use Rattle.record_kinds.specs.Typed.{typed, row};
 
+use answers::Refusal;
 use limits::{
     GREATEST_AMOUNT, GREATEST_HAIRCUT, GREATEST_LOT, GREATEST_NOMINAL, GREATEST_PRICE,
     GREATEST_TOLERANCE,
 };
 
-// The kinds, from 0.
-pub const KINDS: usize = 13;
+// The kinds; the number of each is its record's first byte.
+#[derive(Clone, Copy, Debug, PartialEq, Eq)]
+pub enum Kind {
+    Opening = 0,
+    Price = 1,
+    Participant = 2,
+    Basket = 3,
+    Deposit = 4,
+    Withdrawal = 5,
+    Fop = 6,
+    Return = 7,
+    Cancel = 8,
+    Settle = 9,
+    Mark = 10,
+    Recall = 11,
+    NextDay = 12,
+}
+
+impl From<Kind> for u64 {
+    ghost from_gives = { λ kind number. number ≡ kind_number kind };
+
+    fn from(kind: Kind) -> u64 {
+        kind as u64
+    }
+}
+
+// The kind of a number, or Malformed for a number that no kind has.
+impl TryFrom<u64> for Kind {
+    type Error = Refusal;
+
+    ghost try_from_gives = { Names };
+
+    fn try_from(number: u64) -> Result<Kind, Refusal> {
+        match number {
+            0 => Ok(Kind::Opening),
+            1 => Ok(Kind::Price),
+            2 => Ok(Kind::Participant),
+            3 => Ok(Kind::Basket),
+            4 => Ok(Kind::Deposit),
+            5 => Ok(Kind::Withdrawal),
+            6 => Ok(Kind::Fop),
+            7 => Ok(Kind::Return),
+            8 => Ok(Kind::Cancel),
+            9 => Ok(Kind::Settle),
+            10 => Ok(Kind::Mark),
+            11 => Ok(Kind::Recall),
+            12 => Ok(Kind::NextDay),
+            _ => Err(Refusal::Malformed),
+        }
+    }
+}
 
 // A record's numbers: those of its kind's fields in order, then zeros.
 pub const PLACES: usize = 8;
@@ -21,7 +72,7 @@ pub const PLACES: usize = 8;
 pub type Fields = [u64; PLACES];
 
 // A field: its bytes, the least and the greatest number that it may hold.
-#[derive(Clone, Copy)]
+#[derive(Clone, Copy, Debug, PartialEq, Eq)]
 pub struct Field {
     pub bytes: usize,
     pub least: u64,
@@ -29,7 +80,7 @@ pub struct Field {
 }
 
 // What a field holds.
-#[derive(Clone, Copy)]
+#[derive(Clone, Copy, Debug, PartialEq, Eq)]
 enum FieldType {
     Empty,
     Any8,
@@ -53,122 +104,53 @@ enum FieldType {
     RecallNominal,
 }
 
+// A field of so many bytes, from a least to a greatest number.
+fn bounded(bytes: usize, least: u64, greatest: u64) -> Field
+    ensures { result ≡ record { bytes = bytes; least = least; greatest = greatest } }
+{
+    Field {
+        bytes,
+        least,
+        greatest,
+    }
+}
+
 // The field of a type.
 fn field_type(t: FieldType) -> Field
     ensures { result ≡ typed t }
 {
     match t {
-        FieldType::Empty => Field {
-            bytes: 0,
-            least: 0,
-            greatest: 0,
-        },
-        FieldType::Any8 => Field {
-            bytes: 1,
-            least: 0,
-            greatest: 255,
-        },
-        FieldType::Any32 => Field {
-            bytes: 4,
-            least: 0,
-            greatest: 4294967295,
-        },
-        FieldType::Any64 => Field {
-            bytes: 8,
-            least: 0,
-            greatest: 18446744073709551615,
-        },
-        FieldType::Participant => Field {
-            bytes: 1,
-            least: 0,
-            greatest: 31,
-        },
-        FieldType::Security => Field {
-            bytes: 1,
-            least: 0,
-            greatest: 63,
-        },
-        FieldType::Basket => Field {
-            bytes: 1,
-            least: 0,
-            greatest: 15,
-        },
-        FieldType::Exposure => Field {
-            bytes: 1,
-            least: 0,
-            greatest: 63,
-        },
-        FieldType::Side => Field {
-            bytes: 1,
-            least: 0,
-            greatest: 1,
-        },
-        FieldType::Day => Field {
-            bytes: 4,
-            least: 0,
-            greatest: 4294967295,
-        },
-        FieldType::Nominal => Field {
-            bytes: 4,
-            least: 1,
-            greatest: GREATEST_NOMINAL,
-        },
-        FieldType::Amount => Field {
-            bytes: 8,
-            least: 1,
-            greatest: GREATEST_AMOUNT,
-        },
-        FieldType::Tolerance => Field {
-            bytes: 4,
-            least: 1,
-            greatest: GREATEST_TOLERANCE,
-        },
-        FieldType::Lot => Field {
-            bytes: 4,
-            least: 1,
-            greatest: GREATEST_LOT,
-        },
-        FieldType::Price => Field {
-            bytes: 4,
-            least: 1,
-            greatest: GREATEST_PRICE,
-        },
-        FieldType::Haircut => Field {
-            bytes: 2,
-            least: 0,
-            greatest: GREATEST_HAIRCUT,
-        },
-        FieldType::Mode => Field {
-            bytes: 1,
-            least: 0,
-            greatest: 2,
-        },
-        FieldType::Partial => Field {
-            bytes: 1,
-            least: 0,
-            greatest: 1,
-        },
-        FieldType::Map => Field {
-            bytes: 8,
-            least: 1,
-            greatest: 18446744073709551615,
-        },
-        FieldType::RecallNominal => Field {
-            bytes: 4,
-            least: 1,
-            greatest: 4294967295,
-        },
+        FieldType::Empty => bounded(0, 0, 0),
+        FieldType::Any8 => bounded(1, 0, 255),
+        FieldType::Any32 => bounded(4, 0, 4294967295),
+        FieldType::Any64 => bounded(8, 0, u64::MAX),
+        FieldType::Participant => bounded(1, 0, 31),
+        FieldType::Security => bounded(1, 0, 63),
+        FieldType::Basket => bounded(1, 0, 15),
+        FieldType::Exposure => bounded(1, 0, 63),
+        FieldType::Side => bounded(1, 0, 1),
+        FieldType::Day => bounded(4, 0, 4294967295),
+        FieldType::Nominal => bounded(4, 1, GREATEST_NOMINAL),
+        FieldType::Amount => bounded(8, 1, GREATEST_AMOUNT),
+        FieldType::Tolerance => bounded(4, 1, GREATEST_TOLERANCE),
+        FieldType::Lot => bounded(4, 1, GREATEST_LOT),
+        FieldType::Price => bounded(4, 1, GREATEST_PRICE),
+        FieldType::Haircut => bounded(2, 0, GREATEST_HAIRCUT),
+        FieldType::Mode => bounded(1, 0, 2),
+        FieldType::Partial => bounded(1, 0, 1),
+        FieldType::Map => bounded(8, 1, u64::MAX),
+        FieldType::RecallNominal => bounded(4, 1, 4294967295),
     }
 }
 
 // The types of the places of a kind.
-fn types_of(k: usize) -> [FieldType; PLACES]
-    requires { k < kind_count }
-    ensures { map typed result ≡ row k }
+#[tactic(auto, unfolding(crate::specs::Kinds::kinds))]
+fn types_of(kind: Kind) -> [FieldType; PLACES]
+    ensures { map typed result ≡ row (kind_number kind) }
 {
-    match k {
-        // opening: day, tolerance
-        0 => [
+    match kind {
+        // day, tolerance
+        Kind::Opening => [
             FieldType::Day,
             FieldType::Tolerance,
             FieldType::Empty,
@@ -178,8 +160,8 @@ fn types_of(k: usize) -> [FieldType; PLACES]
             FieldType::Empty,
             FieldType::Empty,
         ],
-        // price: security, lot, price, haircut, quote day
-        1 => [
+        // security, lot, price, haircut, quote day
+        Kind::Price => [
             FieldType::Security,
             FieldType::Lot,
             FieldType::Price,
@@ -189,8 +171,8 @@ fn types_of(k: usize) -> [FieldType; PLACES]
             FieldType::Empty,
             FieldType::Empty,
         ],
-        // participant: number, mode, list, partial
-        2 => [
+        // number, mode, list, partial
+        Kind::Participant => [
             FieldType::Participant,
             FieldType::Mode,
             FieldType::Any32,
@@ -200,8 +182,8 @@ fn types_of(k: usize) -> [FieldType; PLACES]
             FieldType::Empty,
             FieldType::Empty,
         ],
-        // basket: number, map, greatest age
-        3 => [
+        // number, map, greatest age
+        Kind::Basket => [
             FieldType::Basket,
             FieldType::Map,
             FieldType::Any8,
@@ -211,8 +193,8 @@ fn types_of(k: usize) -> [FieldType; PLACES]
             FieldType::Empty,
             FieldType::Empty,
         ],
-        // deposit: participant, security, nominal
-        4 => [
+        // participant, security, nominal
+        Kind::Deposit => [
             FieldType::Participant,
             FieldType::Security,
             FieldType::Nominal,
@@ -222,8 +204,8 @@ fn types_of(k: usize) -> [FieldType; PLACES]
             FieldType::Empty,
             FieldType::Empty,
         ],
-        // withdrawal: participant, security, nominal
-        5 => [
+        // participant, security, nominal
+        Kind::Withdrawal => [
             FieldType::Participant,
             FieldType::Security,
             FieldType::Nominal,
@@ -233,8 +215,8 @@ fn types_of(k: usize) -> [FieldType; PLACES]
             FieldType::Empty,
             FieldType::Empty,
         ],
-        // FOP: side, giver, taker, basket, amount, settlement, closing, reference
-        6 => [
+        // side, giver, taker, basket, amount, settlement, closing, reference
+        Kind::Fop => [
             FieldType::Side,
             FieldType::Participant,
             FieldType::Participant,
@@ -244,8 +226,8 @@ fn types_of(k: usize) -> [FieldType; PLACES]
             FieldType::Day,
             FieldType::Any64,
         ],
-        // return: side, giver, taker, exposure, amount, settlement, reference
-        7 => [
+        // side, giver, taker, exposure, amount, settlement, reference
+        Kind::Return => [
             FieldType::Side,
             FieldType::Participant,
             FieldType::Participant,
@@ -255,8 +237,8 @@ fn types_of(k: usize) -> [FieldType; PLACES]
             FieldType::Any64,
             FieldType::Empty,
         ],
-        // cancel: participant, request number
-        8 => [
+        // participant, request number
+        Kind::Cancel => [
             FieldType::Participant,
             FieldType::Any32,
             FieldType::Empty,
@@ -266,12 +248,9 @@ fn types_of(k: usize) -> [FieldType; PLACES]
             FieldType::Empty,
             FieldType::Empty,
         ],
-        // settle
-        9 => [FieldType::Empty; PLACES],
-        // mark
-        10 => [FieldType::Empty; PLACES],
-        // recall: giver, exposure, security, nominal
-        11 => [
+        Kind::Settle | Kind::Mark | Kind::NextDay => [FieldType::Empty; PLACES],
+        // giver, exposure, security, nominal
+        Kind::Recall => [
             FieldType::Participant,
             FieldType::Exposure,
             FieldType::Security,
@@ -281,39 +260,33 @@ fn types_of(k: usize) -> [FieldType; PLACES]
             FieldType::Empty,
             FieldType::Empty,
         ],
-        // next day
-        _ => [FieldType::Empty; PLACES],
     }
 }
 
-// The field j of the kind k.
-pub fn field_of(k: usize, j: usize) -> Field
-    requires { (k < kind_count) × (j < places) }
-    ensures { result ≡ field_of k j }
+// The field j of a kind.
+pub fn field_of(kind: Kind, j: usize) -> Field
+    requires { j < places }
+    ensures { result ≡ field_of (kind_number kind) j }
 {
-    let types = types_of(k);
-    let t = types[j];
-    field_type(t)
+    let types = types_of(kind);
+    field_type(types[j])
 }
 
 // The bytes of a record of a kind, its kind's byte included: each length is proved to be that of the kind's fields.
-pub fn length_of(k: usize) -> usize
-    requires { k < kind_count }
-    ensures { result ≡ length_of k }
+#[tactic(auto, unfolding(crate::specs::Kinds::kinds, crate::specs::Kinds::offset_of, laws::specs::Sum::sum))]
+pub fn length_of(kind: Kind) -> usize
+    ensures { result ≡ length_of (kind_number kind) }
 {
-    match k {
-        0 => 9,
-        1 => 16,
-        2 => 8,
-        3 => 11,
-        4 => 7,
-        5 => 7,
-        6 => 29,
-        7 => 25,
-        8 => 6,
-        9 => 1,
-        10 => 1,
-        11 => 8,
-        _ => 1,
+    match kind {
+        Kind::Opening => 9,
+        Kind::Price => 16,
+        Kind::Participant => 8,
+        Kind::Basket => 11,
+        Kind::Deposit | Kind::Withdrawal => 7,
+        Kind::Fop => 29,
+        Kind::Return => 25,
+        Kind::Cancel => 6,
+        Kind::Recall => 8,
+        Kind::Settle | Kind::Mark | Kind::NextDay => 1,
     }
 }
