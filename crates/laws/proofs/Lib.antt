@@ -2,6 +2,7 @@ pub mod Bits
 pub mod Cases
 pub mod Chains
 pub mod Filled
+pub mod Found
 pub mod Largest
 pub mod Least
 pub mod Lists

@@ -1,18 +1,11 @@
--- `exposure_search::exposure_with` meets its contract: none below `e` has the key.
+-- `exposure_search::exposure_with` meets its contract: the least row with the key.
 -- Assumes nothing.
-use mathlib.Core.Path.{refl}
+use borrow.Author.Rules.{rules}
 use native.Mathlib.Omega.{arith}
-use Rattle.laws.proofs.Tests.{found, onward, nowhere}
+use Rattle.laws.proofs.Found.{found_over_range}
+use Rattle.book.specs.State.{state}
+use Rattle.exposure_search.specs.Keys.{is_at}
 use Rattle.exposure_search.proofs.exposure_with.Goals as goal
 
-pub loop-e-init : goal.loop-e-init
-loop-e-init c = (omega arith, record { decides = refl })
-
-pub returns-then-has_key : goal.returns-then-has_key
-returns-then-has_key c = search found
-
-pub loop-e-preserved : goal.loop-e-preserved
-loop-e-preserved c = (omega arith, search onward)
-
 pub returns : goal.returns
-returns c = search nowhere
+returns c = found_over_range (is_at (state c.args.book.now) c.args.key) _ _ _ (omega arith) c.find.ensures.ran (λ x y q k. search rules)
