@@ -1,15 +1,11 @@
 -- The kinds by their names: each is one of the table's.
 -- Assumes nothing.
-use mathlib.Core.Path.{◌≡◌}
-use mathlib.Core.Bool.{true}
 use Prim.Native.Nat.{◌<◌}
 use native.Mathlib.Omega.{arith}
-use Rattle.record_kinds.specs.Kinds.{known}
 use Rattle.record_kinds.specs.Numbered.{kind_number}
 use Rattle.record_kinds.specs.Typed.{kind_count}
 use Rattle.record_kinds.specs.declared.Kind.{Kind}
 use Rattle.record_kinds.specs.declared.Kind.TheVariants.{Opening, Price, Participant, Basket, Deposit, Withdrawal, Fop, Return, Cancel, Settle, Mark, Recall, NextDay}
-use Rattle.record_kinds.proofs.Fields.{kind_known}
 
 pub kind_below : (kind : Kind) → kind_number kind < kind_count
 kind_below Opening = omega arith
@@ -25,6 +21,3 @@ kind_below Settle = omega arith
 kind_below Mark = omega arith
 kind_below Recall = omega arith
 kind_below NextDay = omega arith
-
-pub number_known : (kind : Kind) → known (kind_number kind) ≡ true
-number_known kind = kind_known (kind_number kind) (kind_below kind)

@@ -17,9 +17,6 @@ pub fop_length : {k n : ℕ} → k ≡ 6 → n ≡ length_of k → n ≡ 29
 unfolding kinds offset_of sum
 fop_length e g = rw e at g
 
-pub fop_bytes : (k : ℕ) (fields : List ℕ) {part : List ℕ} → k ≡ 6 → part ≡ record_bytes 6 fields → part ≡ record_bytes k fields
-fop_bytes k fields e q = rw e q
-
 module _ (fields d : List ℕ) where
   -- the kind and the fields of one byte
   pub parties_put : {p0 p1 p2 p3 p4 : List ℕ}

@@ -1,14 +1,14 @@
 -- The bytes of a record: how long they are up to each field, and a part that is filled with them.
 -- Assumes nothing.
 use mathlib.Core.Path.{◌≡◌, sym, ap, ◌∙◌}
-use mathlib.Core.List.{List, [], ◌∷◌, ◌++◌, append-nil}
+use mathlib.Core.List.{List, ◌∷◌, ◌++◌, append-nil}
 use mathlib.Core.Logic.{⊎_elim}
-use Prim.Native.Nat.{ℕ, zero, suc, ◌+◌, ◌%◌, ◌^◌, ◌≤◌, ◌<◌}
+use Prim.Native.Nat.{ℕ, zero, suc, ◌+◌, ◌^◌, ◌≤◌, ◌<◌}
 use native.Mathlib.Nat.{eq-or-lt_of_le, le_of_suc-le-suc, mod-eq_of_lt, zero-add}
 use native.Mathlib.Numerals.{add-one}
 use native.Mathlib.Omega.{arith}
-use lib.ListN.{length, get_or, take, drop, set, length-append, length-drop, take-append-drop, drop_of_length-le}
-use lib.Seq.{take_all, take_at, drop_at, drop-drop, take-suc, take-suc-set, take-append-le, take-add, get_or-take, get_or-append-add}
+use lib.ListN.{length, get_or, take, drop, length-append, length-drop, drop_of_length-le}
+use lib.Seq.{take_all, take_at, drop_at, drop-drop, take-suc, take-append-le, take-add, get_or-take, get_or-append-add}
 use Rattle.record_kinds.specs.Kinds.{places, field_of, field_bytes, offset_of, length_of}
 use Rattle.record_kinds.specs.Typed.{kind_count}
 use Rattle.laws.specs.Numbers.{bytes_of}
@@ -48,12 +48,9 @@ module _ (k : ℕ) (fields : List ℕ) where
           rw (← add-one n, image_next) (take-append-le (offset_of k j) (record_bytes_to k fields n) (bytes_of (field_bytes k n) (get_or fields n 0)) (omega (arith, image_length n, start_mono k j n l)))
 
   -- the kind in a part
-  pub fill_start : (part : List ℕ) → k < kind_count → length part ≡ length_of k → set part 0 (k % 256) ≡ record_bytes_to k fields 0 ++ drop 1 (set part 0 (k % 256))
-  unfolding record_bytes_to
-  fill_start part l e =
-      let small : k < 256 = omega arith in
-      let first : take 1 (set part 0 (k % 256)) ≡ k ∷ [] = take-suc-set part 0 (k % 256) (length_some k e) ∙ rw (mod-eq_of_lt small) in
-      sym (take-append-drop 1 (set part 0 (k % 256))) ∙ ap (λ (b : List ℕ). b ++ drop 1 (set part 0 (k % 256))) first
+  pub fill_start : (d : List ℕ) {part : List ℕ} → k < kind_count → part ≡ patched d 0 1 (bytes_of 1 k) → part ≡ record_bytes_to k fields 0 ++ drop 1 d
+  unfolding record_bytes_to bytes_of
+  fill_start d l e = let small : k < 256 = omega arith in e ∙ ap (λ (n : ℕ). n ∷ drop 1 d) (mod-eq_of_lt small)
 
   -- A part that is filled field after field; past the fields that are put it is d.
   module _ (d : List ℕ) where

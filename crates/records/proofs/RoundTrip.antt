@@ -58,8 +58,8 @@ reads_back k fields part long code =
     ext_get_or 0 fields (filled (field_in b k) places places) (long ∙ sym (filled_length (field_in b k) places places))
     (λ j l. sym (filled_at (field_in b k) places places j (omega arith) (omega arith) ∙ image_field k fields j (omega arith) (roomy k fields part code j (omega arith)))) in
     let same : taken (get_or b 0 0) fields ≡ read b =
-    read_legal b {n = length_of k} {t = true} (rw kind (below k fields part code)) (rw kind) (image_length k fields places)
-    (rw kind f) (rw kind (sym (accepted k fields part code).1)) refl in
+    read_legal b (rw kind (below k fields part code)) (rw kind (image_length k fields places))
+    (rw kind f) (rw kind (accepted k fields part code).1) in
     ap read (sym (part_filled k fields part refl (sym code) refl)) ∙ sym same ∙ ap (λ (n : ℕ). taken n fields) kind
 
 -- What the reader takes.
@@ -87,7 +87,7 @@ module _ (b : List ℕ) (code : (read b).code ≡ 0) where
   numbers_legal = sym (legal_filled kind (field_in b kind) ∙ accepted_read.1)
 
   pub is_taken : taken kind numbers ≡ read b
-  is_taken = read_legal b {n = length_of kind} {t = true} formed.0 refl formed.1 refl numbers_legal refl
+  is_taken = read_legal b formed.0 formed.1 refl (sym numbers_legal)
 
   -- its numbers make its bytes
   back : ((i : ℕ) → get_or b i 0 < 256) → record_bytes kind numbers ≡ b

@@ -91,7 +91,7 @@ pub extern "C" fn picking_free(
 pub extern "C" fn records_read(bytes: &[u8]) -> Reading
     ensures { result ≡ read bytes.now }
 {
-    records::records_read(bytes)
+    Reading::from(records::read(bytes))
 }
 
 // Writes a record into a lent part of its length, and returns the code.
@@ -100,7 +100,10 @@ pub extern "C" fn records_write(kind: u64, fields: &Fields, part: &mut [u8]) -> 
     ensures value { result ≡ write_code kind fields.now part.old }
     ensures part_after { part.new ≡ written kind fields.now part.old }
 {
-    records::records_write(kind, fields, part)
+    match records::write(kind, fields, part) {
+        Ok(()) => 0,
+        Err(refusal) => u64::from(refusal),
+    }
 }
 
 // Applies a record to a book: {code, A, B, M}.

@@ -5,4 +5,4 @@ use Rattle.records.proofs.put_fop.Goals as goal
 
 pub returns : goal.returns
 returns c =
-    fop_put c.args.fields.now c.args.part.now c.requires c.put_parties.ensures c.put_eight.ensures c.put_four.ensures c.put_four-2.ensures c.put_eight-2.ensures
+    fop_put c.args.fields.now c.args.part.now c.requires c.put_parties.ensures c.put_number.ensures c.put_number-2.ensures c.put_number-3.ensures c.put_number-4.ensures

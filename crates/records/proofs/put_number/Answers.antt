@@ -6,8 +6,8 @@ use Rattle.laws.proofs.Patches.{put_none, put_width}
 use Rattle.record_kinds.proofs.Fields.{width_eight}
 use Rattle.records.proofs.put_number.Goals as goal
 
-pub put_eight-requires : goal.put_eight-requires
-put_eight-requires c = let e : c.args.w ≡ 8 = search width_eight in omega arith
+pub put_number-requires-in_default : goal.put_number-requires-in_default
+put_number-requires-in_default c = let e : c.args.w ≡ 8 = search width_eight in (omega arith, omega arith)
 
 pub returns-in-0 : goal.returns-in-0
 returns-in-0 c = search put_none

@@ -5,4 +5,4 @@ use Rattle.records.proofs.put_parties.Goals as goal
 
 pub returns : goal.returns
 returns c =
-    parties_put c.args.fields.now c.args.part.now c.put_one.ensures c.put_one-2.ensures c.put_one-3.ensures c.put_one-4.ensures c.put_one-5.ensures
+    parties_put c.args.fields.now c.args.part.now c.put_number.ensures c.put_number-2.ensures c.put_number-3.ensures c.put_number-4.ensures c.put_number-5.ensures

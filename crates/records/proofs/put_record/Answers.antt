@@ -1,10 +1,9 @@
 -- `records::put_record` meets its contract.
 -- Assumes nothing.
-use Rattle.records.proofs.Fop.{fop_length, fop_bytes}
+use mathlib.Core.Path.{ap}
+use Rattle.record_kinds.specs.Numbered.{kind_number}
+use Rattle.records.proofs.Fop.{fop_length}
 use Rattle.records.proofs.put_record.Goals as goal
 
 pub put_fop-requires : goal.put_fop-requires
-put_fop-requires c = search fop_length
-
-pub returns-then-k-eq6 : goal.returns-then-k-eq6
-returns-then-k-eq6 c = search fop_bytes
+put_fop-requires c = fop_length (ap kind_number c.in-Fop.is) c.requires

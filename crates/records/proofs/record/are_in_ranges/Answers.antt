@@ -3,7 +3,7 @@
 use native.Mathlib.Omega.{arith}
 use Rattle.laws.proofs.Least.{loop_fails, loop_passes, loop_ends}
 use Rattle.records.proofs.Ranges.{ranges_first}
-use Rattle.records.proofs.are_in_ranges.Goals as goal
+use Rattle.records.proofs.record.are_in_ranges.Goals as goal
 
 pub loop-j-init : goal.loop-j-init
 loop-j-init c = (omega arith, search ranges_first)
