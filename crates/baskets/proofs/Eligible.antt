@@ -1,44 +1,18 @@
--- Laws of eligibility: what each way out of its tests shows, and that the tests by the day of a quote are those by a price's age.
+-- Laws of eligibility: the tests by the day of a quote are those by a price's age.
 -- Assumes nothing.
-use mathlib.Core.Path.{◌≡◌, sym, subst, ◌∙◌}
-use mathlib.Core.Bool.{Bool, true, false, and-false, and-true}
+use mathlib.Core.Path.{◌≡◌, subst}
 use mathlib.Core.List.{List}
 use Prim.Native.Nat.{ℕ, ◌+◌, ◌≤◌, ◌<◌}
 use native.Mathlib.Decide.{ℕ_discrete}
 use native.Mathlib.Omega.{arith}
-use lib.Dec.{leb}
-use borrow.Author.Tests.{eq-eqb, ne_eqb, le-leb, lt-leb}
+use borrow.Author.Tests.{eq-eqb}
 use Rattle.calendar.specs.Fresh.{FreshDays}
-use Rattle.laws.specs.Bits.{has_bit}
 use Rattle.securities.specs.Security.{security_at}
 use Rattle.securities.specs.declared.Security.{Security}
-use Rattle.valuation.specs.Value.{value}
 use Rattle.baskets.specs.Basket.{qualifies, eligible}
 use Rattle.baskets.specs.Fresh.{qualifies_by, eligible_by, NoneBefore, FreshAges, EligibilityFor}
 use Rattle.baskets.specs.declared.Basket.{Basket}
 use Rattle.baskets.specs.declared.Eligibility.{Eligibility}
-
-module _ (since : ℕ) (s : Security) where
-  pub not_set_up : s.lot ≡ 0 → false ≡ qualifies_by since s
-  unfolding qualifies_by
-  not_set_up l = rw (eq-eqb s.lot 0 l)
-
-  pub worthless : {v : ℕ} → v ≡ value s.pricing s.lot → v < 1 → false ≡ qualifies_by since s
-  unfolding qualifies_by
-  worthless {v} e h = let w = lt-leb 1 v h in rw (sym e, w, and-false, and-false)
-
-  pub by_quote : {v : ℕ} → (s.lot ≡ 0 → ⊥) → v ≡ value s.pricing s.lot → 1 ≤ v → leb since s.quote ≡ qualifies_by since s
-  unfolding qualifies_by
-  by_quote {v} l e h = rw (ne_eqb s.lot 0 l, sym e, le-leb 1 v h, and-true)
-
-module _ (x : Eligibility) (columns : List ℕ) (i : ℕ) {b : Bool} where
-  pub in_map : {q : Bool} → b ≡ has_bit x.map i → b ≡ true → q ≡ qualifies_by x.since (security_at columns i) → q ≡ eligible_by x columns i
-  unfolding eligible_by
-  in_map e f h = rw (sym e ∙ f) h
-
-  pub not_in_map : b ≡ has_bit x.map i → b ≡ false → false ≡ eligible_by x columns i
-  unfolding eligible_by
-  not_in_map e f = rw (sym e ∙ f)
 
 -- one security more that was not quoted before the day
 pub none_first : (day : ℕ) (columns : List ℕ) → NoneBefore day 0 columns

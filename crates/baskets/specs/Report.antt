@@ -1,15 +1,27 @@
 -- Document 01: "a basket's report tells how many securities it holds and the lowest of them".
 -- Assumes nothing.
-use Rattle.std.specs.Prelude.{Bool, true, false, not, ℕ, eqb}
+use Rattle.std.specs.Prelude.{Bool, true, false, not, ℕ, eqb, Result, Ok, Err}
+use Rattle.answers.specs.declared.Refusal.{Refusal}
 use Rattle.answers.specs.Answers.{out_of_range}
+use Rattle.answers.specs.Refusals.{number}
 use Rattle.laws.specs.Bits.{has_bit}
 use Rattle.laws.specs.Search.{least, count}
+use Rattle.baskets.specs.declared.Summary.{Summary}
 use Rattle.baskets.specs.declared.Report as declared
 
+-- how many securities the map holds and the lowest of them
+abbrev pub summary : ℕ → Summary
+summary map = record { count = count (has_bit map) 64 0; lowest = least (has_bit map) 64 0 }
+
+-- what a host gets of an outcome
+abbrev pub reported : Result Summary Refusal → declared.Report
+reported (Ok s) = record { code = 0; count = s.count; lowest = s.lowest }
+reported (Err r) = record { code = number r; count = 0; lowest = 0 }
+
 abbrev report_if : Bool → ℕ → declared.Report
-report_if true map = record { code = 0; count = count (has_bit map) 64 0; lowest = least (has_bit map) 64 0 }
+report_if true map = record { code = 0; count = (summary map).count; lowest = (summary map).lowest }
 report_if false map = record { code = out_of_range; count = 0; lowest = 0 }
 
--- how many securities the map holds and the lowest of them; a map of 0 is out of range
+-- the summary of the map; a map of 0 is out of range
 unfoldable pub report : ℕ → declared.Report
 report map = report_if (not (eqb map 0)) map

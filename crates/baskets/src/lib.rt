@@ -6,9 +6,9 @@ ghost use Rattle.laws.specs.Bits.{has_bit};
 ghost use Rattle.laws.specs.Search.{least, count};
 ghost use Rattle.securities.specs.Bounds.{InBounds, AllInBounds};
 ghost use Rattle.baskets.specs.Fresh.{qualifies_by, eligible_by, NoneBefore, FreshAges, EligibilityFor};
-ghost use Rattle.baskets.specs.Report.{report};
+ghost use Rattle.baskets.specs.Report.{summary, reported, report};
 
-use answers::OUT_OF_RANGE;
+use answers::Refusal;
 use calendar::LAST_DAY;
 use securities::Security;
 
@@ -39,13 +39,7 @@ fn is_qualified(since: u64, s: Security) -> bool
     requires { InBounds s }
     ensures { result ≡ qualifies_by since s }
 {
-    if s.lot == 0 {
-        return false;
-    }
-    if valuation::value_of(s.lot, s.pricing) < 1 {
-        return false;
-    }
-    since <= s.quote
+    s.lot != 0 && 1 <= valuation::value_of(s.lot, s.pricing) && since <= s.quote
 }
 
 // Is the security i eligible?
@@ -53,21 +47,14 @@ pub fn is_eligible(x: Eligibility, columns: &[u64; 256], i: usize) -> bool
     requires { (i < 64) × AllInBounds columns.now }
     ensures { result ≡ eligible_by x columns.now i }
 {
-    if has_bit(x.map, i as u64) {
-        is_qualified(x.since, securities::security_at(columns, i))
-    } else {
-        false
-    }
+    has_bit(x.map, i as u64) && is_qualified(x.since, securities::security_at(columns, i))
 }
 
 // The earlier of a day and the quote of a security, where it is set up.
 fn earlier_quote(day: u64, s: Security) -> u64
     ensures { (result ≤ day) × (0 < s.lot → result ≤ s.quote) }
 {
-    if s.lot == 0 {
-        return day;
-    }
-    if s.quote < day { s.quote } else { day }
+    if s.lot == 0 { day } else { day.min(s.quote) }
 }
 
 // A day before which no security that is set up was quoted.
@@ -103,29 +90,57 @@ pub fn eligibility_on(b: Basket, today: u64, columns: &[u64; 256]) -> Eligibilit
     }
 }
 
-// A basket's report: code 0, how many securities it holds and the lowest of them; or 4 and zeros.
+// What a basket's map tells: how many securities it holds and the lowest of them.
+#[derive(Clone, Copy, Debug, PartialEq, Eq)]
+pub struct Summary {
+    pub count: u64,
+    pub lowest: u64,
+}
+
+// What a map tells. A map of 0, which no basket has, holds none, and 64 stands for its lowest.
+pub fn summary_of(map: u64) -> Summary
+    ensures { result ≡ summary map }
+{
+    Summary {
+        count: u64::from(map.count_ones()),
+        lowest: u64::from(map.trailing_zeros()),
+    }
+}
+
+// The report of a map: refused for a map of 0, which no basket has.
+pub fn baskets_report(map: u64) -> Result<Summary, Refusal>
+    ensures { reported result ≡ report map }
+{
+    if map == 0 {
+        return Err(Refusal::OutOfRange);
+    }
+    Ok(summary_of(map))
+}
+
+// A report for C: code 0 and what the map tells, or the code of a refusal and zeros.
 #[repr(C)]
-#[derive(Clone, Copy)]
+#[derive(Clone, Copy, Debug, PartialEq, Eq)]
 pub struct Report {
     pub code: u64,
     pub count: u64,
     pub lowest: u64,
 }
 
-// The report of a map. Code 4 for a map of 0, which no basket has.
-pub fn baskets_report(map: u64) -> Report
-    ensures { result ≡ report map }
-{
-    if map == 0 {
-        return Report {
-            code: OUT_OF_RANGE,
-            count: 0,
-            lowest: 0,
-        };
-    }
-    Report {
-        code: 0,
-        count: u64::count_ones(map) as u64,
-        lowest: u64::trailing_zeros(map) as u64,
+impl From<Result<Summary, Refusal>> for Report {
+    ghost from_gives = { λ outcome answer. answer ≡ reported outcome };
+
+    fn from(outcome: Result<Summary, Refusal>) -> Report {
+        match outcome {
+            Ok(summary) => Report {
+                code: 0,
+                count: summary.count,
+                lowest: summary.lowest,
+            },
+            Err(refusal) => Report {
+                code: u64::from(refusal),
+                count: 0,
+                lowest: 0,
+            },
+        }
     }
 }

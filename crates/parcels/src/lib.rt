@@ -1,7 +1,7 @@
 // Whole lots of one security: how many a pick takes, how many a free gives back. One division finds each.
 #![tactic(auto)]
 
-ghost use Rattle.std.specs.Prelude.{◌≡◌, ◌<◌, ◌≤◌, ◌-◌, ◌*◌, ◌/◌, min};
+ghost use Rattle.std.specs.Prelude.{◌≡◌, ◌<◌, ◌≤◌, ◌-◌, ◌*◌, ◌/◌};
 ghost use Rattle.limits.specs.Limits.{greatest_lot, greatest_nominal};
 ghost use Rattle.securities.specs.Bounds.{InBounds};
 ghost use Rattle.valuation.specs.Value.{value};
@@ -13,18 +13,16 @@ use securities::Security;
 use valuation::Pricing;
 
 // A nominal of one security and a value in cents.
-#[derive(Clone, Copy)]
+#[derive(Clone, Copy, Debug, PartialEq, Eq)]
 pub struct Parcel {
     pub nominal: u64,
     pub value: u64,
 }
 
-// The smaller of two numbers.
-pub fn smaller(a: u64, b: u64) -> u64
-    ensures { result ≡ min a b }
-{
-    if a <= b { a } else { b }
-}
+pub const NO_PARCEL: Parcel = Parcel {
+    nominal: 0,
+    value: 0,
+};
 
 // The whole lots of a nominal; the division is of 32 bits, which is quicker.
 fn whole_lots(nominal: u64, lot: u64) -> u64
@@ -33,7 +31,7 @@ fn whole_lots(nominal: u64, lot: u64) -> u64
 {
     let n = nominal as u32;
     let l = lot as u32;
-    (n / l * l) as u64
+    u64::from(n / l * l)
 }
 
 // As many whole lots of the account as are worth no more than what remains.
@@ -43,23 +41,8 @@ pub fn parcel_to_pick(s: Security, account: u64, remains: u64) -> Parcel
 {
     let lot = s.lot;
     let pricing = s.pricing;
-    if lot == 0 {
-        return Parcel {
-            nominal: 0,
-            value: 0,
-        };
-    }
-    if account < lot {
-        return Parcel {
-            nominal: 0,
-            value: 0,
-        };
-    }
-    if remains < valuation::value_of(lot, pricing) {
-        return Parcel {
-            nominal: 0,
-            value: 0,
-        };
+    if lot == 0 || account < lot || remains < valuation::value_of(lot, pricing) {
+        return NO_PARCEL;
     }
     let all = whole_lots(account, lot);
     let worth = valuation::value_of(all, pricing);
@@ -69,7 +52,7 @@ pub fn parcel_to_pick(s: Security, account: u64, remains: u64) -> Parcel
             value: worth,
         };
     }
-    let most = smaller(account, valuation::nominal_within(remains, pricing));
+    let most = account.min(valuation::nominal_within(remains, pricing));
     let nominal = whole_lots(most, lot);
     Parcel {
         nominal,
@@ -95,32 +78,17 @@ pub fn parcel_to_free(s: Security, nominal: u64, worth: u64, exposure: u64) -> P
 {
     let lot = s.lot;
     let pricing = s.pricing;
-    if lot == 0 {
-        return Parcel {
-            nominal: 0,
-            value: 0,
-        };
-    }
-    if nominal < lot {
-        return Parcel {
-            nominal: 0,
-            value: 0,
-        };
+    if lot == 0 || nominal < lot {
+        return NO_PARCEL;
     }
     let held = valuation::value_of(nominal, pricing);
     let keep = nominal_to_keep(worth - held, exposure, pricing);
     if nominal < keep {
-        return Parcel {
-            nominal: 0,
-            value: 0,
-        };
+        return NO_PARCEL;
     }
     let given = whole_lots(nominal - keep, lot);
     if given == 0 {
-        return Parcel {
-            nominal: 0,
-            value: 0,
-        };
+        return NO_PARCEL;
     }
     let left = valuation::value_of(nominal - given, pricing);
     Parcel {

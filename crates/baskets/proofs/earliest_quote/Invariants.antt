@@ -1,6 +1,6 @@
 -- `baskets::earliest_quote` meets its contract: none of the securities below `i` was quoted before the day.
 -- Assumes nothing.
-use Prim.Native.Nat.{◌-◌, ◌≤◌}
+use Prim.Native.Nat.{◌≤◌}
 use Rattle.baskets.specs.Fresh.{NoneBefore}
 use Rattle.baskets.proofs.earliest_quote.Given as goal
 

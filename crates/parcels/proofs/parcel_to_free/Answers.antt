@@ -5,12 +5,13 @@ use native.Mathlib.Omega.{arith}
 use Rattle.valuation.proofs.Laws.{value_mono}
 use Rattle.parcels.proofs.Parcels.{free_none, free_too_few, free_kept, free_no_lot, free_most}
 use Rattle.parcels.proofs.parcel_to_free.Goals as goal
+use Rattle.parcels.proofs.parcel_to_free.Goals.{then-lot-eq0-via-then-lot-eq0, then-lot-eq0-via-else-lot-eq0+then-nominal-lot}
 
 pub returns-then-lot-eq0 : goal.returns-then-lot-eq0
-returns-then-lot-eq0 c = search free_none
-
-pub returns-then-nominal-lot : goal.returns-then-nominal-lot
-returns-then-nominal-lot c = search free_too_few
+returns-then-lot-eq0 c = elim c.then-lot-eq0.branch [
+  | then-lot-eq0-via-then-lot-eq0 w ↦ search free_none
+  | then-lot-eq0-via-else-lot-eq0+then-nominal-lot w ↦ search free_too_few
+]
 
 pub nominal_to_keep-keep-requires : goal.nominal_to_keep-keep-requires
 nominal_to_keep-keep-requires c =
