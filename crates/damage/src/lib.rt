@@ -1,39 +1,38 @@
 // What a call and a read begin with: a book of the right length that is sound.
 #![tactic(auto)]
 
-ghost use Rattle.std.specs.Prelude.{◌≡◌};
+ghost use Rattle.std.specs.Prelude.{◌≡◌, IfOk};
+ghost use Rattle.answers.specs.Refusals.{outcome_code};
 ghost use Rattle.rules.specs.Call.{opens};
-ghost use Rattle.damage.specs.Damage.{book_damage, damage};
+ghost use Rattle.damage.specs.Damage.{book_damage};
+
+use answers::Refusal;
+use book::Book;
 
 // Is the first byte that of an opening?
-fn is_opening(bytes: &[u8]) -> bool
+pub fn is_opening(bytes: &[u8]) -> bool
     ensures { result ≡ opens bytes.now }
 {
-    if bytes.len() == 0 {
-        return false;
-    }
-    bytes[0] == 0
+    bytes.first() == Some(&0)
 }
 
-// 1 for a book of another length, 2 for one that is not sound where it has to be, else 0.
-pub fn book_code(book: &[u8], opening: bool) -> u64
-    ensures { result ≡ book_damage book.now opening }
+// Is the book sound? An opening asks for no sound book.
+pub fn check_sound(book: &Book, opening: bool) -> Result<(), Refusal>
+    ensures { outcome_code result ≡ book_damage book.now opening }
 {
-    if book.len() != 49152 {
-        return 1;
+    if opening || soundness::is_sound(book) {
+        Ok(())
+    } else {
+        Err(Refusal::UnsoundBook)
     }
-    if opening {
-        return 0;
-    }
-    if soundness::is_sound(book) {
-        return 0;
-    }
-    2
 }
 
-// The same for a call with a record's bytes: an opening asks for no sound book.
-pub fn damage_code(book: &[u8], bytes: &[u8]) -> u64
-    ensures { result ≡ damage book.now bytes.now }
+// The book of a read: one of the right length that is sound.
+pub fn sound_book(book: &[u8]) -> Result<&Book, Refusal>
+    ensures code { outcome_code result ≡ book_damage book.now false }
+    ensures same { IfOk result (λ sound. sound.now ≡ book.now) }
 {
-    book_code(book, is_opening(bytes))
+    let book = book.as_array().ok_or(Refusal::BookLength)?;
+    check_sound(book, false)?;
+    Ok(book)
 }
