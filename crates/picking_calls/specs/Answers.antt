@@ -1,8 +1,10 @@
 -- What picking answers a host, which may lend any numbers: 4 for a number out of its range, 7 for a day that is not open.
 -- Assumes nothing.
-use Rattle.std.specs.Prelude.{Bool, not, ◌&&◌, cond, List, ℕ, leb, eqb, replicate}
+use Rattle.std.specs.Prelude.{Bool, not, ◌&&◌, cond, List, ℕ, leb, eqb, replicate, Result, Ok, Err}
 use Rattle.limits.specs.Limits.{greatest_exposure}
 use Rattle.answers.specs.Answers.{out_of_range, bad_day}
+use Rattle.answers.specs.Refusals.{number}
+use Rattle.answers.specs.declared.Refusal.{Refusal}
 use Rattle.baskets.specs.Basket.{eligible}
 use Rattle.baskets.specs.declared.Basket.{Basket}
 use Rattle.calendar.specs.Target.{open_day}
@@ -10,6 +12,8 @@ use Rattle.securities.specs.Position.{legal_nominals}
 use Rattle.securities.specs.Security.{legal_securities, legal_quotes}
 use Rattle.picking.specs.Free.{freed}
 use Rattle.picking.specs.Pick.{nothing, picked}
+use Rattle.picking.specs.declared.Freed.{Freed}
+use Rattle.picking.specs.declared.Outcome.{Outcome}
 use Rattle.picking_calls.specs.declared.FreeAnswer as free
 use Rattle.picking_calls.specs.declared.PickAnswer as pick
 
@@ -19,6 +23,15 @@ pick_refused c = record { code = c; outcome = nothing }
 
 abbrev pub free_refused : ℕ → free.FreeAnswer
 free_refused c = record { code = c; freed = record { nominals = replicate 64 0; left = 0; count = 0 } }
+
+-- what a host gets of a pick, and of a free
+abbrev pub pick_answer : Result Outcome Refusal → pick.PickAnswer
+pick_answer (Ok o) = record { code = 0; outcome = o }
+pick_answer (Err r) = pick_refused (number r)
+
+abbrev pub free_answer : Result Freed Refusal → free.FreeAnswer
+free_answer (Ok o) = record { code = 0; freed = o }
+free_answer (Err r) = free_refused (number r)
 
 -- the numbers that a pick is given are in their ranges: nominals, securities, a map that is not 0, an age of one byte, an amount up to 10^13
 unfoldable pub legal_pick : List ℕ → List ℕ → Basket → ℕ → Bool

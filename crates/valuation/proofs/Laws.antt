@@ -1,7 +1,7 @@
 -- Laws of a value: what the layers above use in the place of its text.
 -- Assumes nothing.
 use mathlib.Core.Path.{◌≡◌}
-use mathlib.Core.Bool.{Bool, true, ◌&&◌}
+use mathlib.Core.Bool.{true, ◌&&◌}
 use Prim.Native.Nat.{ℕ, ◌*◌, ◌-◌, ◌/◌, ◌≤◌, ◌<◌}
 use native.Mathlib.Nat.{mul-le-mul, mul-le-mul_right, zero-mul, le_trans, le-div_iff_mul-le, div-mul-le_self}
 use native.Mathlib.Omega.{arith}

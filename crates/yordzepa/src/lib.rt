@@ -24,7 +24,7 @@ use records::Reading;
 pub extern "C" fn calendar_is_open(day: u64) -> CodedValue
     ensures { result ≡ is_open_answer day }
 {
-    calendar::calendar_is_open(day)
+    CodedValue::from(calendar::calendar_is_open(day).map(u64::from))
 }
 
 // The first open day after an open day.
@@ -32,7 +32,7 @@ pub extern "C" fn calendar_is_open(day: u64) -> CodedValue
 pub extern "C" fn calendar_next_open_day(day: u64) -> CodedValue
     ensures { result ≡ next_open_day_answer day }
 {
-    calendar::calendar_next_open_day(day)
+    CodedValue::from(calendar::calendar_next_open_day(day))
 }
 
 // The age of a price in open days.
@@ -40,7 +40,7 @@ pub extern "C" fn calendar_next_open_day(day: u64) -> CodedValue
 pub extern "C" fn calendar_price_age(quote: u64, today: u64) -> CodedValue
     ensures { result ≡ age_answer quote today }
 {
-    calendar::calendar_price_age(quote, today)
+    CodedValue::from(calendar::calendar_price_age(quote, today))
 }
 
 // The value of a nominal in cents.
@@ -48,7 +48,7 @@ pub extern "C" fn calendar_price_age(quote: u64, today: u64) -> CodedValue
 pub extern "C" fn valuation_value(nominal: u64, price: u64, haircut: u64) -> CodedValue
     ensures { result ≡ valued nominal (record { price = price; haircut = haircut }) }
 {
-    valuation::valuation_value(nominal, price, haircut)
+    CodedValue::from(valuation::valuation_value(nominal, price, haircut))
 }
 
 // The report of a basket's map.
@@ -56,7 +56,7 @@ pub extern "C" fn valuation_value(nominal: u64, price: u64, haircut: u64) -> Cod
 pub extern "C" fn baskets_report(map: u64) -> Report
     ensures { result ≡ report map }
 {
-    baskets::baskets_report(map)
+    Report::from(baskets::baskets_report(map))
 }
 
 // Picks an amount from an account for a basket.
@@ -71,7 +71,9 @@ pub extern "C" fn picking_pick(
 ) -> PickAnswer
     ensures { result ≡ picked_for columns.now account.now (record { map = map; oldest = oldest }) today amount }
 {
-    picking_calls::picking_pick(account, columns, map, oldest, today, amount)
+    PickAnswer::from(picking_calls::picking_pick(
+        account, columns, map, oldest, today, amount,
+    ))
 }
 
 // Frees a position down to an exposure.
@@ -83,7 +85,7 @@ pub extern "C" fn picking_free(
 ) -> FreeAnswer
     ensures { result ≡ freed_down columns.now position.now exposure }
 {
-    picking_calls::picking_free(position, columns, exposure)
+    FreeAnswer::from(picking_calls::picking_free(position, columns, exposure))
 }
 
 // Reads a record.

@@ -1,7 +1,7 @@
 -- `picking::pick` meets its contract: the outcome is that of the securities below `i`.
 -- Assumes nothing.
 use mathlib.Core.Path.{◌≡◌}
-use Prim.Native.Nat.{◌-◌, ◌≤◌}
+use Prim.Native.Nat.{◌≤◌}
 use Rattle.baskets.specs.Fresh.{eligible_by}
 use Rattle.picking.specs.Pick.{but, picked_below}
 use Rattle.picking.specs.declared.Outcome.{Outcome}

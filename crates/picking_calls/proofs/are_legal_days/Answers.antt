@@ -1,15 +1,14 @@
 -- `picking_calls::are_legal_days` meets its contract.
 -- Assumes nothing.
-use mathlib.Core.Path.{sym, ◌∙◌}
-use borrow.Author.Tests.{not-false}
-use Rattle.picking_calls.proofs.Legal.{closed_today, by_quotes}
+use borrow.Author.Rules.{rules}
+use borrow.Author.Tests.{tests}
+use Rattle.picking_calls.specs.Answers.{legal_days}
 use Rattle.picking_calls.proofs.are_legal_days.Goals as goal
 
-pub returns-then-not-is_open : goal.returns-then-not-is_open
-returns-then-not-is_open c = search closed_today
+pub returns-then-is_open : goal.returns-then-is_open
+unfolding legal_days
+returns-then-is_open c = search (rules, tests)
 
-pub are_quoted-requires : goal.are_quoted-requires
-are_quoted-requires c = sym c.is_open.ensures ∙ not-false c.is_open.result c.if-not-is_open.false-raw
-
-pub returns : goal.returns
-returns c = search by_quotes
+pub returns-else-is_open : goal.returns-else-is_open
+unfolding legal_days
+returns-else-is_open c = search (rules, tests)

@@ -1,13 +1,22 @@
 -- `picking_calls::is_legal_free` meets its contract.
 -- Assumes nothing.
-use Rattle.picking_calls.proofs.Legal.{free_nominals, free_securities, free_exposure_lem}
+use mathlib.Core.Bool.{and-false}
+use borrow.Author.Rules.{rules}
+use borrow.Author.Tests.{tests}
+use Rattle.picking_calls.specs.Answers.{legal_free}
 use Rattle.picking_calls.proofs.is_legal_free.Goals as goal
+use Rattle.picking_calls.proofs.is_legal_free.Goals.{then-are_nominals, else-are_nominals}
 
-pub returns-then-not-are_nominals : goal.returns-then-not-are_nominals
-returns-then-not-are_nominals c = search free_nominals
+pub returns-then-are_legal : goal.returns-then-are_legal
+unfolding legal_free
+returns-then-are_legal c = elim c.if-are_nominals.branch [
+  | then-are_nominals w ↦ search (rules, tests, and-false)
+  | else-are_nominals w ↦ search (rules, tests, and-false)
+]
 
-pub returns-then-not-are_legal : goal.returns-then-not-are_legal
-returns-then-not-are_legal c = search free_securities
-
-pub returns : goal.returns
-returns c = search free_exposure_lem
+pub returns-else-are_legal : goal.returns-else-are_legal
+unfolding legal_free
+returns-else-are_legal c = elim c.if-are_nominals.branch [
+  | then-are_nominals w ↦ search (rules, tests, and-false)
+  | else-are_nominals w ↦ search (rules, tests, and-false)
+]
