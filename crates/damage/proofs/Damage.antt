@@ -1,4 +1,4 @@
--- Laws of the codes 1 and 2: each return, what a book without them is, and that they come before any other code.
+-- Laws of the codes 1 and 2: what a book without them is, and that they come before any other code.
 -- Assumes nothing.
 use mathlib.Core.Path.{◌≡◌, refl, sym, ap, ◌∙◌}
 use mathlib.Core.Bool.{Bool, true, false, not, ◌&&◌, cond, and-false}
@@ -13,34 +13,6 @@ use Rattle.book.specs.State.{state}
 use Rattle.rules.specs.Call.{opens}
 use Rattle.rules.specs.Sound.{sound}
 use Rattle.damage.specs.Damage.{code_after, book_damage, damage}
-
--- the kind's byte
-module _ (r : List ℕ) where
-  pub no_byte : length r ≡ 0 → false ≡ opens r
-  no_byte z = rw z
-
-  pub by_byte : {x : ℕ} → (length r ≡ 0 → ⊥) → x ≡ get_or r 0 0 → eqb x 0 ≡ opens r
-  by_byte n e = rw (ne_eqb (length r) 0 n, ← e)
-
--- the tests of the book
-module _ (b : List ℕ) (o : Bool) where
-  pub other_length : (length b ≡ 49152 → ⊥) → 1 ≡ book_damage b o
-  other_length n = rw (ne_eqb (length b) 49152 n)
-
-  module _ (long : length b ≡ 49152) where
-    pub opening_passes : o ≡ true → 0 ≡ book_damage b o
-    opening_passes h = rw (long, h)
-
-    module _ {t : Bool} (f : t ≡ sound (state b)) where
-      pub sound_passes : t ≡ true → 0 ≡ book_damage b o
-      sound_passes h = rw (long, sym f ∙ h, and-false)
-
-      pub unsound_refused : o ≡ false → t ≡ false → 2 ≡ book_damage b o
-      unsound_refused h n = rw (long, h, sym f ∙ n)
-
--- by a record
-pub by_record : (b r : List ℕ) {o : Bool} {c : ℕ} → o ≡ opens r → c ≡ book_damage b o → c ≡ damage b r
-by_record b r e f = f ∙ ap (book_damage b) e
 
 -- past the tests: the right length, and sound or an opening
 pub record Passed (b : List ℕ) (o : Bool) : Type 0 where

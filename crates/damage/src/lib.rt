@@ -1,7 +1,7 @@
 // What a call and a read begin with: a book of the right length that is sound.
 #![tactic(auto)]
 
-ghost use Rattle.std.specs.Prelude.{◌≡◌, IfOk};
+ghost use Rattle.std.specs.Prelude.{◌≡◌, false, IfOk};
 ghost use Rattle.answers.specs.Refusals.{outcome_code};
 ghost use Rattle.rules.specs.Call.{opens};
 ghost use Rattle.damage.specs.Damage.{book_damage};

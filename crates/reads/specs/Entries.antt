@@ -1,19 +1,29 @@
--- The answers of accepted reads in parts, as the code finds them.
+-- The parts of a read: its rules one by one, its answer by its outcome, and the numbers of a request's answer.
 -- Assumes nothing.
-use Rattle.std.specs.Prelude.{not, ◌&&◌, ◌||◌, cond, List, [], ◌∷◌, ℕ, ◌+◌, ◌*◌, eqb, leb, get_or}
-use Rattle.book.specs.Layout.{rows_of, lots, request_tables}
+use Rattle.std.specs.Prelude.{Bool, not, ◌&&◌, cond, List, [], ◌∷◌, ℕ, eqb, leb, get_or, set, replicate, Result, Ok, Err}
+use Rattle.answers.specs.declared.Refusal.{Refusal}
+use Rattle.answers.specs.Refusals.{number}
+use Rattle.book.specs.Layout.{numbers, request_tables}
 use Rattle.book.specs.State.{State}
-use Rattle.rules.specs.Outcome.{rule, lowest}
+use Rattle.rules.specs.Outcome.{Rule, rule}
 use Rattle.rules.specs.Reads.{shown}
-use Rattle.rules.specs.Stock.{security_set_up}
+use Rattle.rules.specs.Requests.{is_used}
 
--- the code of a read of a nominal, by the code c of its row and by its security
-abbrev pub nominal_code : State → ℕ → ℕ → ℕ
-nominal_code s c i = lowest (rule (eqb c 4 || leb (rows_of lots) i) 4 ∷ rule (not (eqb c 0 && security_set_up s i)) 5 ∷ [])
+-- 4 of a number past a table's rows; 5 of a row that is not set up, or not in use
+abbrev pub index_rules : ℕ → ℕ → List Rule
+index_rules rows x = rule (leb rows x) 4 ∷ []
 
--- and its answer: the nominal in the row x of the table f
-abbrev pub nominal_answer : State → ℕ → ℕ → ℕ → ℕ → List ℕ
-nominal_answer s c f x i = nominal_code s c i ∷ cond (eqb (nominal_code s c i) 0) (s f (64 * x + i) ∷ []) (0 ∷ [])
+abbrev pub used_rules : State → ℕ → ℕ → List Rule
+used_rules s f i = rule (eqb (s f i) 0) 5 ∷ []
+
+-- the answer of n numbers: code 0 and the values, or the code of a refusal and zeros
+abbrev pub answer_by : ℕ → Result (List ℕ) Refusal → List ℕ
+answer_by n (Ok answer) = answer
+answer_by n (Err r) = set (replicate n 0) 0 (number r)
+
+-- the row i is used, with the number n
+abbrev pub is_row : State → ℕ → ℕ → Bool
+is_row s n i = not (eqb (s numbers i) 0) && eqb (s numbers i) n
 
 -- the number k of the answer of an accepted read of a request: code 0 in the place of its number, then its fields
 abbrev pub request_number : State → ℕ → ℕ → ℕ

@@ -2,97 +2,135 @@
 // Each fills a lent answer of fixed length: the code, then the values, which are 0 in a refusal. No read writes to the book.
 #![tactic(auto)]
 
-ghost use Rattle.std.specs.Prelude.{◌≡◌, true, ◌+◌, ◌*◌, ◌≤◌, ◌<◌, length};
+ghost use Rattle.std.specs.Prelude.{◌≡◌, true, ◌<◌, ◌∷◌, IfOk};
 ghost use Rattle.laws.specs.Filled.{filled};
-ghost use Rattle.book.specs.Layout.{book_length, table_count, rows_of, modes};
+ghost use Rattle.laws.specs.Search.{found};
+ghost use Rattle.answers.specs.Refusals.{outcome_code};
+ghost use Rattle.book.specs.Layout.{rows_of};
 ghost use Rattle.book.specs.State.{state};
+ghost use Rattle.book.specs.Tables.{number};
 ghost use Rattle.rules.specs.Outcome.{lowest};
-ghost use Rattle.rules.specs.Reads.{account, position, exposure, request, basket, row_of, row_rules, read_rules, read_answer, partner_number};
+ghost use Rattle.rules.specs.Reads.{account, position, exposure, request, basket, row_of, read_code, read_values, read_answer, partner_number};
 ghost use Rattle.rules.specs.Sound.{sound};
-ghost use Rattle.rules.specs.Stock.{participant_set_up};
-ghost use Rattle.reads.specs.Entries.{nominal_answer, request_number};
+ghost use Rattle.reads.specs.Entries.{answer_by, index_rules, used_rules, is_row, request_number};
 
-use book::layout::Table;
+use answers::Refusal;
+use book::Book;
+use book::layout::{REQUEST_TABLES, Table};
 
-// 4 and 5 of a participant.
-fn participant_rules(book: &[u8], p: u64) -> u64
-    ensures { result ≡ lowest (row_rules modes p (participant_set_up (state book.now) p)) }
+// The number of a row of which there are so many.
+fn index(x: u64, rows: u64) -> Result<usize, Refusal>
+    ensures code { outcome_code result ≡ lowest (index_rules rows x) }
+    ensures value { IfOk result (λ i. (i ≡ x) × (i < rows)) }
 {
-    if 32 <= p {
-        return 4;
+    if x < rows {
+        Ok(x as usize)
+    } else {
+        Err(Refusal::OutOfRange)
     }
-    if book::get(book, Table::Modes, p as usize) == 0 {
-        return 5;
-    }
-    0
 }
 
-// 4 and 5 of an exposure.
-fn exposure_rules(book: &[u8], e: u64) -> u64
-    ensures { result ≡ lowest (read_rules (state book.now) (exposure e)) }
+// Is a row set up, or in use, by the table that says so?
+fn check_used(book: &Book, table: Table, i: usize) -> Result<(), Refusal>
+    requires { i < rows_of (number table) }
+    ensures { outcome_code result ≡ lowest (used_rules (state book.now) (number table) i) }
 {
-    if 64 <= e {
-        return 4;
+    if book::get(book, table, i) == 0 {
+        Err(Refusal::NotSetUp)
+    } else {
+        Ok(())
     }
-    if book::get(book, Table::InUse, e as usize) != 1 {
-        return 5;
-    }
-    0
 }
 
-// 4 and 5 of a basket.
-fn basket_rules(book: &[u8], b: u64) -> u64
-    ensures { result ≡ lowest (read_rules (state book.now) (basket b)) }
+// The answer of a read: code 0 and its values, or the code of a refusal and zeros.
+fn answer_of<const N: usize>(outcome: Result<[u64; N], Refusal>) -> [u64; N]
+    requires { 0 < N }
+    ensures { result ≡ answer_by N outcome.entry }
 {
-    if 16 <= b {
-        return 4;
-    }
-    if book::get(book, Table::Maps, b as usize) == 0 {
-        return 5;
-    }
-    0
-}
-
-// The nominal of one security in the row x of a table, an account or a position, by the code of that row: {code, nominal}.
-fn nominal_answer(book: &[u8], code: u64, f: usize, x: u64, security: u64) -> [u64; 2]
-    requires { code ≡ 0 → (x < 64) × (64 * x + 64 ≤ rows_of f) }
-    ensures { result ≡ nominal_answer (state book.now) code f x security }
-{
-    if code == 4 {
-        return [4, 0];
-    }
-    if 64 <= security {
-        return [4, 0];
-    }
-    if code != 0 {
-        return [5, 0];
-    }
-    if book::get(book, Table::Lots, security as usize) == 0 {
-        return [5, 0];
-    }
-    let at = 64 * x as usize + security as usize;
-    [0, book::get(book, f, at)]
-}
-
-// The row of a request by its number, 256 where there is none. No request has the number 0.
-fn row_of(book: &[u8], number: u64) -> usize
-    ensures { result ≡ row_of (state book.now) number }
-{
-    if number == 0 {
-        return 256;
-    }
-    let mut i: usize = 0;
-    while i < 256 {
-        if book::get(book, Table::Numbers, i) == number {
-            return i;
+    match outcome {
+        Ok(answer) => answer,
+        Err(refusal) => {
+            let mut answer = [0u64; N];
+            answer[0] = u64::from(refusal);
+            answer
         }
-        i += 1;
     }
-    i
+}
+
+// The nominal of one security in a participant's account.
+fn account(book: &[u8], participant: u64, security: u64) -> Result<[u64; 2], Refusal>
+    ensures code { outcome_code result ≡ read_code book.now (account participant security) }
+    ensures values { IfOk result (λ answer. answer ≡ 0 ∷ read_values (state book.now) (account participant security)) }
+{
+    let book = damage::sound_book(book)?;
+    let p = index(participant, 32)?;
+    let i = index(security, 64)?;
+    check_used(book, Table::Modes, p)?;
+    check_used(book, Table::Lots, i)?;
+    Ok([0, book::get(book, Table::Accounts, 64 * p + i)])
+}
+
+// The nominal of one security in an exposure's position.
+fn position(book: &[u8], exposure: u64, security: u64) -> Result<[u64; 2], Refusal>
+    ensures code { outcome_code result ≡ read_code book.now (position exposure security) }
+    ensures values { IfOk result (λ answer. answer ≡ 0 ∷ read_values (state book.now) (position exposure security)) }
+{
+    let book = damage::sound_book(book)?;
+    let e = index(exposure, 64)?;
+    let i = index(security, 64)?;
+    check_used(book, Table::InUse, e)?;
+    check_used(book, Table::Lots, i)?;
+    Ok([0, book::get(book, Table::Positions, 64 * e + i)])
+}
+
+// An exposure's giver, taker, basket, closing and amount.
+fn exposure(book: &[u8], e: u64) -> Result<[u64; 6], Refusal>
+    ensures code { outcome_code result ≡ read_code book.now (exposure e) }
+    ensures values { IfOk result (λ answer. answer ≡ 0 ∷ read_values (state book.now) (exposure e)) }
+{
+    let book = damage::sound_book(book)?;
+    let i = index(e, 64)?;
+    check_used(book, Table::InUse, i)?;
+    let giver = book::get(book, Table::ExposureGivers, i);
+    let taker = book::get(book, Table::ExposureTakers, i);
+    let basket = book::get(book, Table::ExposureBaskets, i);
+    let closing = book::get(book, Table::ExposureClosings, i);
+    let amount = book::get(book, Table::ExposureAmounts, i);
+    Ok([0, giver, taker, basket, closing, amount])
+}
+
+// A basket's map and greatest age, how many securities it holds and the lowest of them.
+fn basket(book: &[u8], b: u64) -> Result<[u64; 5], Refusal>
+    ensures code { outcome_code result ≡ read_code book.now (basket b) }
+    ensures values { IfOk result (λ answer. answer ≡ 0 ∷ read_values (state book.now) (basket b)) }
+{
+    let book = damage::sound_book(book)?;
+    let i = index(b, 16)?;
+    check_used(book, Table::Maps, i)?;
+    let map = book::get(book, Table::Maps, i);
+    let age = book::get(book, Table::GreatestAges, i);
+    let summary = baskets::summary_of(map);
+    Ok([0, map, age, summary.count, summary.lowest])
+}
+
+// The row of a request by its number. No request has the number 0.
+fn row_of(book: &Book, number: u64) -> Option<usize>
+    ensures { result ≡ found 256 (row_of (state book.now) number) }
+{
+    (0..256).find(|i| is_number(book, *i, number))
+}
+
+// Is the row used, with this number?
+fn is_number(book: &Book, i: usize, number: u64) -> bool
+    requires { i < 256 }
+    ensures { result ≡ is_row (state book.now) number i }
+{
+    let its = book::get(book, Table::Numbers, i);
+    its != 0 && its == number
 }
 
 // The number of a request's partner, 0 where it is unpaired.
-fn partner_number(book: &[u8], i: usize) -> u64
+fn partner_number(book: &Book, i: usize) -> u64
     requires { (sound (state book.now) ≡ true) × (i < 256) }
     ensures { result ≡ partner_number (state book.now) i }
 {
@@ -104,22 +142,32 @@ fn partner_number(book: &[u8], i: usize) -> u64
 }
 
 // One number of the answer of an accepted read of a request.
-fn request_number(book: &[u8], i: usize, k: usize) -> u64
+fn request_number(book: &Book, i: usize, k: usize) -> u64
     requires { (sound (state book.now) ≡ true) × (i < 256) × (k < 15) }
     ensures { result ≡ request_number (state book.now) i k }
 {
-    if k == 0 {
-        return 0;
+    match REQUEST_TABLES[k] {
+        Table::Numbers => 0,
+        Table::Partners => partner_number(book, i),
+        table => book::get(book, table, i),
     }
-    let f = Table::Numbers + k;
-    if f == Table::Partners {
-        return partner_number(book, i);
-    }
-    book::get(book, f, i)
+}
+
+// A request's kind, side, giver, taker, basket or exposure, amount, settlement, closing, reference, settled, partner's number,
+// partial, cancelled and ended.
+fn request(book: &[u8], number: u64) -> Result<[u64; 15], Refusal>
+    ensures code { outcome_code result ≡ read_code book.now (request number) }
+    ensures values { IfOk result (λ answer. answer ≡ 0 ∷ read_values (state book.now) (request number)) }
+{
+    let book = damage::sound_book(book)?;
+    let Some(i) = row_of(book, number) else {
+        return Err(Refusal::NotSetUp);
+    };
+    Ok(request_answer(book, i))
 }
 
 // The answer of an accepted read of a request.
-fn request_answer(book: &[u8], i: usize) -> [u64; 15]
+fn request_answer(book: &Book, i: usize) -> [u64; 15]
     requires { (sound (state book.now) ≡ true) × (i < 256) }
     ensures { result ≡ filled (request_number (state book.now) i) 15 15 }
 {
@@ -134,69 +182,28 @@ fn request_answer(book: &[u8], i: usize) -> [u64; 15]
 pub fn reads_account(book: &[u8], participant: u64, security: u64, answer: &mut [u64; 2])
     ensures { answer.new ≡ read_answer book.now (account participant security) }
 {
-    let damaged = damage::book_code(book, false);
-    if damaged != 0 {
-        *answer = [damaged, 0];
-        return;
-    }
-    let code = participant_rules(book, participant);
-    *answer = nominal_answer(book, code, Table::Accounts, participant, security);
+    *answer = answer_of(account(book, participant, security));
 }
 
 // The nominal of one security in an exposure's position: {code, nominal}.
 pub fn reads_position(book: &[u8], exposure: u64, security: u64, answer: &mut [u64; 2])
     ensures { answer.new ≡ read_answer book.now (position exposure security) }
 {
-    let damaged = damage::book_code(book, false);
-    if damaged != 0 {
-        *answer = [damaged, 0];
-        return;
-    }
-    let code = exposure_rules(book, exposure);
-    *answer = nominal_answer(book, code, Table::Positions, exposure, security);
+    *answer = answer_of(position(book, exposure, security));
 }
 
 // An exposure: {code, giver, taker, basket, closing, amount}.
 pub fn reads_exposure(book: &[u8], e: u64, answer: &mut [u64; 6])
     ensures { answer.new ≡ read_answer book.now (exposure e) }
 {
-    let damaged = damage::book_code(book, false);
-    if damaged != 0 {
-        *answer = [damaged, 0, 0, 0, 0, 0];
-        return;
-    }
-    let code = exposure_rules(book, e);
-    if code != 0 {
-        *answer = [code, 0, 0, 0, 0, 0];
-        return;
-    }
-    let i = e as usize;
-    let giver = book::get(book, Table::ExposureGivers, i);
-    let taker = book::get(book, Table::ExposureTakers, i);
-    let basket = book::get(book, Table::ExposureBaskets, i);
-    let closing = book::get(book, Table::ExposureClosings, i);
-    let amount = book::get(book, Table::ExposureAmounts, i);
-    *answer = [0, giver, taker, basket, closing, amount];
+    *answer = answer_of(exposure(book, e));
 }
 
 // A basket: {code, map, greatest age, how many securities it holds, the lowest of them}.
 pub fn reads_basket(book: &[u8], b: u64, answer: &mut [u64; 5])
     ensures { answer.new ≡ read_answer book.now (basket b) }
 {
-    let damaged = damage::book_code(book, false);
-    if damaged != 0 {
-        *answer = [damaged, 0, 0, 0, 0];
-        return;
-    }
-    let code = basket_rules(book, b);
-    if code != 0 {
-        *answer = [code, 0, 0, 0, 0];
-        return;
-    }
-    let map = book::get(book, Table::Maps, b as usize);
-    let age = book::get(book, Table::GreatestAges, b as usize);
-    let report = baskets::baskets_report(map);
-    *answer = [0, map, age, report.count, report.lowest];
+    *answer = answer_of(basket(book, b));
 }
 
 // A request by its number: {code, kind, side, giver, taker, basket or exposure, amount, settlement, closing, reference, settled,
@@ -204,15 +211,5 @@ pub fn reads_basket(book: &[u8], b: u64, answer: &mut [u64; 5])
 pub fn reads_request(book: &[u8], number: u64, answer: &mut [u64; 15])
     ensures { answer.new ≡ read_answer book.now (request number) }
 {
-    let damaged = damage::book_code(book, false);
-    if damaged != 0 {
-        *answer = [damaged, 0, 0, 0, 0, 0, 0, 0, 0, 0, 0, 0, 0, 0, 0];
-        return;
-    }
-    let i = row_of(book, number);
-    if i == 256 {
-        *answer = [5, 0, 0, 0, 0, 0, 0, 0, 0, 0, 0, 0, 0, 0, 0];
-        return;
-    }
-    *answer = request_answer(book, i);
+    *answer = answer_of(request(book, number));
 }

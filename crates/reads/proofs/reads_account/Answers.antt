@@ -1,20 +1,9 @@
--- `reads::reads_account` meets its contract.
+-- `reads::reads_account` meets its contract: the outcome as an answer.
 -- Assumes nothing.
-use Prim.Native.Nat.{◌<◌}
-use native.Mathlib.Omega.{arith}
-use Rattle.reads.proofs.Answers.{accepted_length, damaged, account_answer}
-use Rattle.reads.proofs.Returns.{row_in}
-use borrow.Author.Rules.{rules}
+use mathlib.Core.Path.{refl, ◌∙◌}
+use Rattle.rules.specs.Reads.{account}
+use Rattle.reads.proofs.Codes.{whole_answer}
 use Rattle.reads.proofs.reads_account.Goals as goal
 
-pub returns-then-damaged-ne0 : goal.returns-then-damaged-ne0
-returns-then-damaged-ne0 c = search damaged
-
-pub participant_rules-code-requires : goal.participant_rules-code-requires
-participant_rules-code-requires c = search accepted_length
-
-pub nominal_answer-requires : goal.nominal_answer-requires
-nominal_answer-requires c = (search accepted_length, search rules, λ z. (let near : c.args.participant < 32 = search row_in in (omega arith, omega arith)))
-
 pub returns : goal.returns
-returns c = search account_answer
+returns c = c.answer_of.ensures ∙ whole_answer c.args.book.now (account c.args.participant c.args.security) 1 _ refl c.account.ensures.code c.account.ensures.values

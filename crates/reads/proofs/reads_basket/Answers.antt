@@ -1,24 +1,9 @@
--- `reads::reads_basket` meets its contract.
+-- `reads::reads_basket` meets its contract: the outcome as an answer.
 -- Assumes nothing.
-use Rattle.reads.proofs.Answers.{accepted_length, damaged, read_refused, basket_read}
-use Rattle.reads.proofs.Returns.{row_in}
-use borrow.Author.Rules.{rules}
+use mathlib.Core.Path.{refl, ◌∙◌}
+use Rattle.rules.specs.Reads.{basket}
+use Rattle.reads.proofs.Codes.{whole_answer}
 use Rattle.reads.proofs.reads_basket.Goals as goal
 
-pub returns-then-damaged-ne0 : goal.returns-then-damaged-ne0
-returns-then-damaged-ne0 c = search damaged
-
-pub basket_rules-code-requires : goal.basket_rules-code-requires
-basket_rules-code-requires c = search accepted_length
-
-pub returns-then-code-ne0 : goal.returns-then-code-ne0
-returns-then-code-ne0 c = search read_refused
-
-pub get-map-requires : goal.get-map-requires
-get-map-requires c = search (accepted_length, row_in, rules)
-
-pub get-age-requires : goal.get-age-requires
-get-age-requires c = search (accepted_length, row_in, rules)
-
 pub returns : goal.returns
-returns c = search basket_read
+returns c = c.answer_of.ensures ∙ whole_answer c.args.book.now (basket c.args.b) 4 _ refl c.basket.ensures.code c.basket.ensures.values

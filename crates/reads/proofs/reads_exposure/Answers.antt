@@ -1,33 +1,9 @@
--- `reads::reads_exposure` meets its contract.
+-- `reads::reads_exposure` meets its contract: the outcome as an answer.
 -- Assumes nothing.
-use Rattle.reads.proofs.Answers.{accepted_length, damaged, read_refused, exposure_read}
-use Rattle.reads.proofs.Returns.{row_in}
-use borrow.Author.Rules.{rules}
+use mathlib.Core.Path.{refl, ◌∙◌}
+use Rattle.rules.specs.Reads.{exposure}
+use Rattle.reads.proofs.Codes.{whole_answer}
 use Rattle.reads.proofs.reads_exposure.Goals as goal
 
-pub returns-then-damaged-ne0 : goal.returns-then-damaged-ne0
-returns-then-damaged-ne0 c = search damaged
-
-pub exposure_rules-code-requires : goal.exposure_rules-code-requires
-exposure_rules-code-requires c = search accepted_length
-
-pub returns-then-code-ne0 : goal.returns-then-code-ne0
-returns-then-code-ne0 c = search read_refused
-
-pub get-giver-requires : goal.get-giver-requires
-get-giver-requires c = search (accepted_length, row_in, rules)
-
-pub get-taker-requires : goal.get-taker-requires
-get-taker-requires c = search (accepted_length, row_in, rules)
-
-pub get-basket-requires : goal.get-basket-requires
-get-basket-requires c = search (accepted_length, row_in, rules)
-
-pub get-closing-requires : goal.get-closing-requires
-get-closing-requires c = search (accepted_length, row_in, rules)
-
-pub get-amount-requires : goal.get-amount-requires
-get-amount-requires c = search (accepted_length, row_in, rules)
-
 pub returns : goal.returns
-returns c = search exposure_read
+returns c = c.answer_of.ensures ∙ whole_answer c.args.book.now (exposure c.args.e) 5 _ refl c.exposure.ensures.code c.exposure.ensures.values

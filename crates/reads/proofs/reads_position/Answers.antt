@@ -1,20 +1,9 @@
--- `reads::reads_position` meets its contract.
+-- `reads::reads_position` meets its contract: the outcome as an answer.
 -- Assumes nothing.
-use Prim.Native.Nat.{◌<◌}
-use native.Mathlib.Omega.{arith}
-use Rattle.reads.proofs.Answers.{accepted_length, damaged, position_answer}
-use Rattle.reads.proofs.Returns.{row_in}
-use borrow.Author.Rules.{rules}
+use mathlib.Core.Path.{refl, ◌∙◌}
+use Rattle.rules.specs.Reads.{position}
+use Rattle.reads.proofs.Codes.{whole_answer}
 use Rattle.reads.proofs.reads_position.Goals as goal
 
-pub returns-then-damaged-ne0 : goal.returns-then-damaged-ne0
-returns-then-damaged-ne0 c = search damaged
-
-pub exposure_rules-code-requires : goal.exposure_rules-code-requires
-exposure_rules-code-requires c = search accepted_length
-
-pub nominal_answer-requires : goal.nominal_answer-requires
-nominal_answer-requires c = (search accepted_length, search rules, λ z. (let near : c.args.exposure < 64 = search row_in in (omega arith, omega arith)))
-
 pub returns : goal.returns
-returns c = search position_answer
+returns c = c.answer_of.ensures ∙ whole_answer c.args.book.now (position c.args.exposure c.args.security) 1 _ refl c.position.ensures.code c.position.ensures.values
