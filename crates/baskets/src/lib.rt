@@ -3,7 +3,7 @@
 
 ghost use Rattle.std.specs.Prelude.{◌≡◌, ◌<◌, ◌≤◌};
 ghost use Rattle.laws.specs.Bits.{has_bit};
-ghost use Rattle.laws.specs.Search.{least, count};
+ghost use Rattle.laws.specs.Search.{count};
 ghost use Rattle.securities.specs.Bounds.{InBounds, AllInBounds};
 ghost use Rattle.baskets.specs.Fresh.{qualifies_by, eligible_by, NoneBefore, FreshAges, EligibilityFor};
 ghost use Rattle.baskets.specs.Report.{summary, reported, report};

@@ -1,6 +1,6 @@
 -- Document 01, "Days": the days on which TARGET is open (ECB calendar from 2002), the next one, and the age of a price.
 -- Assumes nothing.
-use Rattle.std.specs.Prelude.{Bool, not, ◌||◌, ℕ, ◌+◌, ◌-◌, ◌%◌, eqb, ltb}
+use Rattle.std.specs.Prelude.{Bool, not, ◌||◌, cond, Option, Some, None, ℕ, ◌+◌, ◌-◌, ◌%◌, eqb, leb, ltb}
 use Rattle.laws.specs.Search.{least, count}
 use Rattle.calendar.specs.Gregorian.{year_of, day_of_year, leap_day, date_of}
 use Rattle.calendar.specs.Easter.{easter}
@@ -36,6 +36,10 @@ open_day d = not (ltb last_day d || (is_saturday d || (is_sunday d || holiday_of
 -- the first open day after a day up to the last, and 146,097 where there is none
 unfoldable pub next_open_day : ℕ → ℕ
 next_open_day d = least open_day (last_day - d) (d + 1)
+
+-- the same where there is one
+abbrev pub open_day_after : ℕ → Option ℕ
+open_day_after d = cond (leb (next_open_day d) last_day) (Some (next_open_day d)) None
 
 -- "The age of a price is the number of open days after its quote day up to and including today"
 unfoldable pub age : ℕ → ℕ → ℕ

@@ -8,7 +8,7 @@ ghost use Rattle.calendar.specs.Answers.{as_number, is_open_answer, next_open_da
 ghost use Rattle.calendar.specs.Gregorian.{start_of, year_of};
 ghost use Rattle.calendar.specs.Easter.{easter};
 ghost use Rattle.calendar.specs.Fresh.{FreshDays};
-ghost use Rattle.calendar.specs.Target.{easter_holiday, holiday, open_day, next_open_day, age};
+ghost use Rattle.calendar.specs.Target.{easter_holiday, holiday, open_day, open_day_after, next_open_day, age};
 ghost use Rattle.calendar.specs.YearDay.{year_day};
 
 use answers::Refusal;
@@ -91,14 +91,20 @@ pub fn is_open(day: u64) -> bool
     !is_holiday(d.day, d.leap, d.year as usize)
 }
 
+// The first open day after a day. There may be none.
+pub fn open_day_after(day: u64) -> Option<u64>
+    requires { day ≤ 146096 }
+    ensures { result ≡ open_day_after day }
+{
+    (day + 1..LAST_DAY + 1).find(|&next| is_open(next))
+}
+
 // The first open day after a day, or 146097 where there is none.
 pub fn next_open_day(day: u64) -> u64
     requires { day ≤ 146096 }
     ensures { result ≡ next_open_day day }
 {
-    (day + 1..LAST_DAY + 1)
-        .find(|&next| is_open(next))
-        .unwrap_or(LAST_DAY + 1)
+    open_day_after(day).unwrap_or(LAST_DAY + 1)
 }
 
 // The age of a price: the open days after its quote day up to and including today, 0 where the quote is after today.
@@ -116,6 +122,7 @@ pub fn fresh_days(from: u64, today: u64, most: usize) -> [u64; 256]
 {
     let mut days = [0u64; 256];
     let mut age: usize = 0;
+    // Each day looked at is the one after `before`: a range that begins at `from + 1` could overflow.
     for before in (from..today).rev() {
         if most < age {
             return days;
@@ -145,11 +152,7 @@ pub fn calendar_next_open_day(day: u64) -> Result<u64, Refusal>
     if !is_open(day) {
         return Err(Refusal::BadDay);
     }
-    let next = next_open_day(day);
-    if LAST_DAY < next {
-        return Err(Refusal::BadDay);
-    }
-    Ok(next)
+    open_day_after(day).ok_or(Refusal::BadDay)
 }
 
 // The age of a price in open days. Refused where a day is not open, or the quote is after today.

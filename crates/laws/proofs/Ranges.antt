@@ -91,6 +91,12 @@ least_nowhere t (suc n) a before =
     let later : least t n (suc a) ≡ suc a + n = least_nowhere t n (suc a) (λ k p q. before k (omega arith) (omega arith)) in
     least_miss t n a (before a (omega arith) (omega arith)) ∙ later ∙ omega arith
 
+pub least_le : (t : ℕ → Bool) (n a : ℕ) → least t n a ≤ a + n
+least_le t zero a = omega (arith, least_none t a)
+least_le t (suc n) a =
+    let later = least_le t n (suc a) in
+    ⊎_elim (λ p. omega (arith, least_hit t n a p)) (λ p. omega (arith, least_miss t n a p, later)) (either (t a))
+
 -- what `find` gives: the least, or nothing where the test holds nowhere
 abbrev pub IsLeastOf : (ℕ → Bool) → ℕ → ℕ → Option ℕ → Type 0
 IsLeastOf t a b r = MatchOption r (least t (b - a) a ≡ b) (λ i. (least t (b - a) a ≡ i) × (a ≤ i) × (i < b) × (t i ≡ true))

@@ -3,10 +3,10 @@
 // The columns stay in one array: C lends them so to picking, and the reader of a book fills the same.
 #![tactic(auto)]
 
-ghost use Rattle.std.specs.Prelude.{◌≡◌, ◌<◌, ◌≤◌, true};
+ghost use Rattle.std.specs.Prelude.{◌≡◌, ◌<◌, true};
 ghost use Rattle.calendar.specs.Target.{open_day};
-ghost use Rattle.securities.specs.Position.{worth, value_at, nominals_of, legal_nominal_at, legal_nominals};
-ghost use Rattle.securities.specs.Security.{security_at, legal_security, legal_quote, legal_at, quoted_at, legal_securities, legal_quotes};
+ghost use Rattle.securities.specs.Position.{worth, value_at, nominals_of, legal_nominals};
+ghost use Rattle.securities.specs.Security.{security_at, legal_security, legal_quote, legal_securities, legal_quotes};
 ghost use Rattle.securities.specs.Bounds.{AllInBounds, Within};
 
 use limits::{GREATEST_LOT, GREATEST_NOMINAL};
@@ -77,25 +77,11 @@ fn is_quoted(today: u64, s: Security) -> bool
     s.quote < today && calendar::is_open(s.quote)
 }
 
-fn is_legal_at(columns: &[u64; 256], i: usize) -> bool
-    requires { i < 64 }
-    ensures { result ≡ legal_at columns.now i }
-{
-    is_legal(security_at(columns, i))
-}
-
 // Are all of a host's securities in their ranges?
 pub fn are_legal(columns: &[u64; 256]) -> bool
     ensures { result ≡ legal_securities columns.now }
 {
-    (0..64).all(|i| is_legal_at(columns, i))
-}
-
-fn is_quoted_at(today: u64, columns: &[u64; 256], i: usize) -> bool
-    requires { (i < 64) × (open_day today ≡ true) }
-    ensures { result ≡ quoted_at today columns.now i }
-{
-    is_quoted(today, security_at(columns, i))
+    (0..64).all(|i| is_legal(security_at(columns, i)))
 }
 
 // Are all of a host's quote days open and not after today, which is open?
@@ -103,7 +89,7 @@ pub fn are_quoted(today: u64, columns: &[u64; 256]) -> bool
     requires { open_day today ≡ true }
     ensures { result ≡ legal_quotes today columns.now }
 {
-    (0..64).all(|i| is_quoted_at(today, columns, i))
+    (0..64).all(|i| is_quoted(today, security_at(columns, i)))
 }
 
 // Are all of a host's nominals at most 500,000,000?
