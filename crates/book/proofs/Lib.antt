@@ -6,4 +6,3 @@ pub mod Places
 pub mod Rows
 pub mod Securities
 pub mod Tables
-pub mod Words

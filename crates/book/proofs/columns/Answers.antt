@@ -16,7 +16,7 @@ loop-k-init c = (omega arith, filled_first (λ j. state c.args.book.now (get_or 
 pub loop-k-preserved : goal.loop-k-preserved
 loop-k-preserved c =
     let l = c.loop-k in
-    let read = column_read c.args.book.now l.k (omega arith) c.word.ensures.0 in
+    let read = column_read c.args.book.now l.k (omega arith) c.number_at.ensures.0 in
     (omega arith, filled_next (λ j. state c.args.book.now (get_or security_tables (j / 64) 0) (j % 64)) 256 l.k l.columns read l.invariant.1)
 
 pub returns : goal.returns

@@ -11,7 +11,7 @@ loop-i-init c = (omega arith, search change_start)
 pub overflow_add-x : goal.overflow_add-x
 overflow_add-x c =
     let l = c.loop-i in
-    omega (arith, change_room ◌+◌ c.args.row.now c.args.by.now l.row l.i c.word.result (omega arith) l.invariant.1 c.word.ensures.0 c.requires)
+    omega (arith, change_room ◌+◌ c.args.row.now c.args.by.now l.row l.i c.number_at.result (omega arith) l.invariant.1 c.number_at.ensures.0 c.requires)
 
 pub loop-i-preserved : goal.loop-i-preserved
 loop-i-preserved c = (omega arith, search raised_next)

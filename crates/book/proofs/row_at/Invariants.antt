@@ -1,7 +1,7 @@
 -- `book::row_at` meets its contract: the places below i are filled.
 -- Assumes nothing.
 use mathlib.Core.Path.{◌≡◌}
-use Prim.Native.Nat.{◌+◌, ◌-◌, ◌≤◌}
+use Prim.Native.Nat.{◌+◌, ◌≤◌}
 use Rattle.laws.specs.Filled.{filled}
 use Rattle.book.specs.State.{state}
 use Rattle.book.specs.Tables.{number}
