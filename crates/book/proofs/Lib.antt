@@ -1,4 +1,5 @@
 pub mod Cells
+pub mod Filling
 pub mod Images
 pub mod Moves
 pub mod Named

@@ -13,6 +13,7 @@ pub mod layout;
 
 use big_endian::{number_at, put_number};
 use layout::Table;
+use std::array;
 
 // The book's bytes.
 pub type Book = [u8; 49152];
@@ -50,22 +51,14 @@ pub fn row_at(book: &Book, table: Table, start: usize) -> [u64; 64]
     requires { start + 64 ≤ rows_of (number table) }
     ensures { result ≡ row_at (state book.now) (number table) start }
 {
-    let mut row = [0u64; 64];
-    for i in 0..64 {
-        row[i] = get(book, table, start + i);
-    }
-    row
+    array::from_fn(|i| get(book, table, start + i))
 }
 
 // The securities' four columns: lots, prices, haircuts, quote days.
 pub fn columns(book: &Book) -> [u64; 256]
     ensures { result ≡ columns_of (state book.now) }
 {
-    let mut columns = [0u64; 256];
-    for k in 0..256 {
-        columns[k] = number_at::<4>(book, 12 + 4 * k);
-    }
-    columns
+    array::from_fn(|k| number_at::<4>(book, 12 + 4 * k))
 }
 
 // Where 64 numbers of a table of four bytes a row begin.
