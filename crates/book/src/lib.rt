@@ -4,7 +4,7 @@
 
 ghost use Rattle.std.specs.Prelude.{◌≡◌, ◌+◌, ◌*◌, ◌^◌, ◌≤◌, ◌<◌};
 ghost use Rattle.book.specs.Layout.{rows_of, width_of, base_of, book_length};
-ghost use Rattle.book.specs.Row.{RowRaisable, RaisedRow, RowLowerable, LoweredRow};
+ghost use Rattle.book.specs.Row.{RowChangeable, Changed};
 ghost use Rattle.book.specs.State.{state, put, row_at, columns_of, raised, lowered};
 ghost use Rattle.book.specs.Tables.{number};
 ghost use Rattle.book.specs.Fits.{Raisable, Lowerable};
@@ -69,13 +69,13 @@ fn row_place(table: Table, start: usize) -> usize
     layout::base_of(table) + 4 * start
 }
 
-// Adds to each of 64 numbers of four bytes.
-fn raise_row(row: &mut [u8], by: &[u64; 64])
-    requires { RowRaisable row.old by.now }
-    ensures { RaisedRow row.old by.now 64 row.new }
+// Changes each of 64 numbers of four bytes by the number of a list.
+fn change_row<F: Fn(u64, u64) -> u64>(row: &mut [u8], by: &[u64; 64], change: F)
+    requires { RowChangeable (F.pre change) (F.post change) row.old by.now }
+    ensures { Changed (F.post change) row.old by.now 64 row.new }
 {
     for i in 0..64 {
-        let x = number_at::<4>(row, 4 * i) + by[i];
+        let x = change(number_at::<4>(row, 4 * i), by[i]);
         put_number::<4>(row, 4 * i, x);
     }
 }
@@ -87,18 +87,7 @@ pub fn raise(book: &mut Book, table: Table, start: usize, by: &[u64; 64])
 {
     let a = row_place(table, start);
     let e = a + 256;
-    raise_row(&mut book[a..e], by);
-}
-
-// Takes from each of 64 numbers of four bytes.
-fn lower_row(row: &mut [u8], by: &[u64; 64])
-    requires { RowLowerable row.old by.now }
-    ensures { LoweredRow row.old by.now 64 row.new }
-{
-    for i in 0..64 {
-        let x = number_at::<4>(row, 4 * i) - by[i];
-        put_number::<4>(row, 4 * i, x);
-    }
+    change_row(&mut book[a..e], by, |held, more| held + more);
 }
 
 // Takes from the 64 numbers of an account or a position: the row is handed on by itself to be written.
@@ -108,5 +97,5 @@ pub fn lower(book: &mut Book, table: Table, start: usize, by: &[u64; 64])
 {
     let a = row_place(table, start);
     let e = a + 256;
-    lower_row(&mut book[a..e], by);
+    change_row(&mut book[a..e], by, |held, less| held - less);
 }
