@@ -1,4 +1,5 @@
 pub mod Cells
+pub mod Filling
 pub mod Images
 pub mod Moves
 pub mod Named
@@ -6,4 +7,3 @@ pub mod Places
 pub mod Rows
 pub mod Securities
 pub mod Tables
-pub mod Words

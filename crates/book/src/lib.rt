@@ -2,79 +2,37 @@
 // With a table named by its constant the compiler makes one load or store of a call.
 #![tactic(auto)]
 
-ghost use Rattle.std.specs.Prelude.{◌≡◌, ◌++◌, ◌+◌, ◌*◌, ◌^◌, ◌≤◌, ◌<◌, length, take, drop};
-ghost use Rattle.laws.specs.Numbers.{number_at, bytes_of};
+ghost use Rattle.std.specs.Prelude.{◌≡◌, ◌+◌, ◌*◌, ◌^◌, ◌≤◌, ◌<◌};
 ghost use Rattle.book.specs.Layout.{rows_of, width_of, base_of, book_length};
-ghost use Rattle.book.specs.Row.{RowRaisable, RaisedRow, RowLowerable, LoweredRow};
+ghost use Rattle.book.specs.Row.{RowChangeable, Changed};
 ghost use Rattle.book.specs.State.{state, put, row_at, columns_of, raised, lowered};
 ghost use Rattle.book.specs.Tables.{number};
 ghost use Rattle.book.specs.Fits.{Raisable, Lowerable};
 
 pub mod layout;
 
+use big_endian::{number_at, put_number};
 use layout::Table;
+use std::array;
 
 // The book's bytes.
 pub type Book = [u8; 49152];
 
-// Four bytes as one number, the highest first.
-fn join(a: u8, b: u8, c: u8, d: u8) -> u64
-    ensures { (result ≡ a * 16777216 + b * 65536 + c * 256 + d) × (result < 4294967296) }
-{
-    (a as u64) * 16777216 + (b as u64) * 65536 + (c as u64) * 256 + (d as u64)
-}
-
-// The number in four bytes.
-fn word(book: &[u8], at: usize) -> u64
-    requires { at + 4 ≤ length book.now }
-    ensures { (result ≡ number_at book.now at 4) × (result < 4294967296) }
-{
-    join(book[at], book[at + 1], book[at + 2], book[at + 3])
-}
-
-// The number in eight bytes.
-fn long(book: &[u8], at: usize) -> u64
-    requires { at + 8 ≤ length book.now }
-    ensures { result ≡ number_at book.now at 8 }
-{
-    word(book, at) * 4294967296 + word(book, at + 4)
-}
-
-// Writes a number into four bytes.
-fn put_word(book: &mut [u8], at: usize, x: u64)
-    requires { at + 4 ≤ length book.old }
-    ensures { book.new ≡ take at book.old ++ bytes_of 4 x ++ drop (at + 4) book.old }
-{
-    book[at] = (x / 16777216 % 256) as u8;
-    book[at + 1] = (x / 65536 % 256) as u8;
-    book[at + 2] = (x / 256 % 256) as u8;
-    book[at + 3] = (x % 256) as u8;
-}
-
-// Writes a number into eight bytes.
-fn put_long(book: &mut [u8], at: usize, x: u64)
-    requires { at + 8 ≤ length book.old }
-    ensures { book.new ≡ take at book.old ++ bytes_of 8 x ++ drop (at + 8) book.old }
-{
-    put_word(book, at, x / 4294967296);
-    put_word(book, at + 4, x);
-}
-
-// The number in the row i of the table f.
+// The number in the row i of a table.
 pub fn get(book: &Book, table: Table, i: usize) -> u64
-    requires { (i < rows_of (number table)) }
+    requires { i < rows_of (number table) }
     ensures { result ≡ state book.now (number table) i }
 {
     let at = layout::base_of(table);
     let w = layout::width_of(table);
     if w == 4 {
-        word(book, at + 4 * i)
+        number_at::<4>(book, at + 4 * i)
     } else {
-        long(book, at + 8 * i)
+        number_at::<8>(book, at + 8 * i)
     }
 }
 
-// Writes a number into the row i of the table f; every other number stays.
+// Writes a number into the row i of a table; every other number stays.
 pub fn set(book: &mut Book, table: Table, i: usize, x: u64)
     requires { (i < rows_of (number table)) × (x < 256 ^ width_of (number table)) }
     ensures { state book.new ≡ put (state book.old) (number table) i x }
@@ -82,35 +40,25 @@ pub fn set(book: &mut Book, table: Table, i: usize, x: u64)
     let at = layout::base_of(table);
     let w = layout::width_of(table);
     if w == 4 {
-        put_word(book, at + 4 * i, x);
+        put_number::<4>(book, at + 4 * i, x);
     } else {
-        put_long(book, at + 8 * i, x);
+        put_number::<8>(book, at + 8 * i, x);
     }
 }
 
 // The 64 numbers of a table from a row on.
 pub fn row_at(book: &Book, table: Table, start: usize) -> [u64; 64]
-    requires { (start + 64 ≤ rows_of (number table)) }
+    requires { start + 64 ≤ rows_of (number table) }
     ensures { result ≡ row_at (state book.now) (number table) start }
 {
-    let mut row = [0u64; 64];
-    for i in 0..64 {
-        row[i] = get(book, table, start + i);
-    }
-    row
+    array::from_fn(|i| get(book, table, start + i))
 }
 
 // The securities' four columns: lots, prices, haircuts, quote days.
 pub fn columns(book: &Book) -> [u64; 256]
     ensures { result ≡ columns_of (state book.now) }
 {
-    let mut columns = [0u64; 256];
-    let mut k: usize = 0;
-    while k < 256 {
-        columns[k] = word(book, 12 + 4 * k);
-        k += 1;
-    }
-    columns
+    array::from_fn(|k| number_at::<4>(book, 12 + 4 * k))
 }
 
 // Where 64 numbers of a table of four bytes a row begin.
@@ -121,16 +69,14 @@ fn row_place(table: Table, start: usize) -> usize
     layout::base_of(table) + 4 * start
 }
 
-// Adds to each of 64 numbers of four bytes.
-fn raise_row(row: &mut [u8], by: &[u64; 64])
-    requires { RowRaisable row.old by.now }
-    ensures { RaisedRow row.old by.now 64 row.new }
+// Changes each of 64 numbers of four bytes by the number of a list.
+fn change_row<F: Fn(u64, u64) -> u64>(row: &mut [u8], by: &[u64; 64], change: F)
+    requires { RowChangeable (F.pre change) (F.post change) row.old by.now }
+    ensures { Changed (F.post change) row.old by.now 64 row.new }
 {
-    let mut i: usize = 0;
-    while i < 64 {
-        let x = word(row, 4 * i) + by[i];
-        put_word(row, 4 * i, x);
-        i += 1;
+    for i in 0..64 {
+        let x = change(number_at::<4>(row, 4 * i), by[i]);
+        put_number::<4>(row, 4 * i, x);
     }
 }
 
@@ -141,20 +87,7 @@ pub fn raise(book: &mut Book, table: Table, start: usize, by: &[u64; 64])
 {
     let a = row_place(table, start);
     let e = a + 256;
-    raise_row(&mut book[a..e], by);
-}
-
-// Takes from each of 64 numbers of four bytes.
-fn lower_row(row: &mut [u8], by: &[u64; 64])
-    requires { RowLowerable row.old by.now }
-    ensures { LoweredRow row.old by.now 64 row.new }
-{
-    let mut i: usize = 0;
-    while i < 64 {
-        let x = word(row, 4 * i) - by[i];
-        put_word(row, 4 * i, x);
-        i += 1;
-    }
+    change_row(&mut book[a..e], by, |held, more| held + more);
 }
 
 // Takes from the 64 numbers of an account or a position: the row is handed on by itself to be written.
@@ -164,5 +97,5 @@ pub fn lower(book: &mut Book, table: Table, start: usize, by: &[u64; 64])
 {
     let a = row_place(table, start);
     let e = a + 256;
-    lower_row(&mut book[a..e], by);
+    change_row(&mut book[a..e], by, |held, less| held - less);
 }

@@ -10,13 +10,15 @@ use record_kinds::{Fields, Kind, PLACES};
 
 #[derive(Clone, Copy, Debug, PartialEq, Eq)]
 pub struct Record {
-    pub kind: Kind,
     pub fields: Fields,
+    pub kind: Kind,
     pub ghost legal: { are_legal (kind_number kind) fields ≡ true },
 }
 
 impl Record {
     // The record of a kind with these numbers, or OutOfRange where one is out of the range of its field.
+    // Without the inlining, or with the kind as the first field, reading a FOP takes half as long again: the outcome is copied.
+    #[inline(always)]
     pub fn new(kind: Kind, fields: Fields) -> Result<Record, Refusal>
         ensures { MatchResult result
             (λ r. (r.kind ≡ kind) × (r.fields ≡ fields))

@@ -1,23 +1,18 @@
--- `book::columns` meets its contract: the places below k are filled.
+-- `book::columns` meets its contract: each number of the columns is read from its place.
 -- Assumes nothing.
 use mathlib.Core.Path.{◌≡◌}
-use Prim.Native.Nat.{◌/◌, ◌%◌}
-use native.Mathlib.Omega.{arith}
+use Prim.Native.Nat.{◌+◌, ◌*◌, ◌/◌, ◌%◌}
 use lib.ListN.{get_or}
-use Rattle.laws.proofs.Filled.{filled_first, filled_next}
+use borrow.Author.Rules.{rules}
+use Rattle.laws.specs.Numbers.{number_at}
 use Rattle.book.specs.Layout.{security_tables}
 use Rattle.book.specs.State.{state}
+use Rattle.book.proofs.Filling.{filled_from_fn}
 use Rattle.book.proofs.Securities.{column_read}
 use Rattle.book.proofs.columns.Goals as goal
 
-pub loop-k-init : goal.loop-k-init
-loop-k-init c = (omega arith, filled_first (λ j. state c.args.book.now (get_or security_tables (j / 64) 0) (j % 64)) 256)
-
-pub loop-k-preserved : goal.loop-k-preserved
-loop-k-preserved c =
-    let l = c.loop-k in
-    let read = column_read c.args.book.now l.k (omega arith) c.word.ensures.0 in
-    (omega arith, filled_next (λ j. state c.args.book.now (get_or security_tables (j / 64) 0) (j % 64)) 256 l.k l.columns read l.invariant.1)
-
 pub returns : goal.returns
-returns c = let e : c.loop-k.k ≡ 256 = omega arith in rw e at c.loop-k.invariant.1
+returns c =
+    filled_from_fn _ _ (λ k. state c.args.book.now (get_or security_tables (k / 64) 0) (k % 64)) 256
+    (λ i y q l k. let e : y ≡ number_at c.args.book.now (12 + 4 * i) 4 = search rules in (search rules, column_read c.args.book.now i l e))
+    c.from_fn.result c.from_fn.ensures.items

@@ -5,7 +5,6 @@ use mathlib.Core.Path.{◌≡◌}
 use native.Mathlib.Omega.{arith}
 use Rattle.book.specs.Layout.{width_of, book_length}
 use Rattle.book.specs.Tables.{number}
-use Rattle.book.proofs.Named.{number_known}
 use Rattle.book.proofs.Places.{width_is, width_else, cell_inside}
 use Rattle.book.proofs.Cells.{cell_read}
 use Rattle.book.proofs.get.Goals as goal
@@ -32,8 +31,8 @@ overflow_mul-i c = omega (arith, four-inside (goal.at.overflow_mul-i c).Then-w-e
 pub overflow_add-at : goal.overflow_add-at
 overflow_add-at c = omega (arith, four-inside (goal.at.overflow_add-at c).Then-w-eq4)
 
-pub word-requires : goal.word-requires
-word-requires c = omega (arith, four-inside (goal.at.word-requires c).Then-w-eq4)
+pub number_at-requires : goal.number_at-requires
+number_at-requires c = (omega arith, omega (arith, four-inside (goal.at.number_at-requires c).Then-w-eq4))
 
 pub overflow_mul-i-else-w-eq4 : goal.overflow_mul-i-else-w-eq4
 overflow_mul-i-else-w-eq4 c = omega (arith, eight-inside (goal.at.overflow_mul-i-else-w-eq4 c).Else-w-eq4)
@@ -41,13 +40,13 @@ overflow_mul-i-else-w-eq4 c = omega (arith, eight-inside (goal.at.overflow_mul-i
 pub overflow_add-at-else-w-eq4 : goal.overflow_add-at-else-w-eq4
 overflow_add-at-else-w-eq4 c = omega (arith, eight-inside (goal.at.overflow_add-at-else-w-eq4 c).Else-w-eq4)
 
-pub long-requires : goal.long-requires
-long-requires c = omega (arith, eight-inside (goal.at.long-requires c).Else-w-eq4)
+pub number_at-requires-else-w-eq4 : goal.number_at-requires-else-w-eq4
+number_at-requires-else-w-eq4 c = (omega arith, omega (arith, eight-inside (goal.at.number_at-requires-else-w-eq4 c).Else-w-eq4))
 
 pub returns-then-w-eq4 : goal.returns-then-w-eq4
 returns-then-w-eq4 c =
-    cell_read c.args.book.now (number c.args.table) c.args.i c.requires c.base_of-at.ensures (four (goal.at.returns-then-w-eq4 c).Then-w-eq4) c.word.ensures.0
+    cell_read c.args.book.now (number c.args.table) c.args.i c.requires c.base_of-at.ensures (four (goal.at.returns-then-w-eq4 c).Then-w-eq4) c.number_at.ensures.0
 
 pub returns-else-w-eq4 : goal.returns-else-w-eq4
 returns-else-w-eq4 c =
-    cell_read c.args.book.now (number c.args.table) c.args.i c.requires c.base_of-at.ensures (eight (goal.at.returns-else-w-eq4 c).Else-w-eq4) c.long.ensures
+    cell_read c.args.book.now (number c.args.table) c.args.i c.requires c.base_of-at.ensures (eight (goal.at.returns-else-w-eq4 c).Else-w-eq4) c.number_at-else-w-eq4.ensures.0

@@ -5,7 +5,6 @@ use mathlib.Core.Path.{◌≡◌}
 use native.Mathlib.Omega.{arith}
 use Rattle.book.specs.Layout.{width_of, book_length}
 use Rattle.book.specs.Tables.{number}
-use Rattle.book.proofs.Named.{number_known}
 use Rattle.book.proofs.Places.{width_is, width_else, cell_inside}
 use Rattle.book.proofs.Cells.{cell_written}
 use Rattle.book.proofs.set.Goals as goal
@@ -32,8 +31,8 @@ overflow_mul-i c = omega (arith, four-inside (goal.at.overflow_mul-i c).Then-w-e
 pub overflow_add-at : goal.overflow_add-at
 overflow_add-at c = omega (arith, four-inside (goal.at.overflow_add-at c).Then-w-eq4)
 
-pub put_word-requires : goal.put_word-requires
-put_word-requires c = omega (arith, four-inside (goal.at.put_word-requires c).Then-w-eq4)
+pub put_number-requires : goal.put_number-requires
+put_number-requires c = (omega arith, omega (arith, four-inside (goal.at.put_number-requires c).Then-w-eq4))
 
 pub overflow_mul-i-else-w-eq4 : goal.overflow_mul-i-else-w-eq4
 overflow_mul-i-else-w-eq4 c = omega (arith, eight-inside (goal.at.overflow_mul-i-else-w-eq4 c).Else-w-eq4)
@@ -41,13 +40,13 @@ overflow_mul-i-else-w-eq4 c = omega (arith, eight-inside (goal.at.overflow_mul-i
 pub overflow_add-at-else-w-eq4 : goal.overflow_add-at-else-w-eq4
 overflow_add-at-else-w-eq4 c = omega (arith, eight-inside (goal.at.overflow_add-at-else-w-eq4 c).Else-w-eq4)
 
-pub put_long-requires : goal.put_long-requires
-put_long-requires c = omega (arith, eight-inside (goal.at.put_long-requires c).Else-w-eq4)
+pub put_number-requires-else-w-eq4 : goal.put_number-requires-else-w-eq4
+put_number-requires-else-w-eq4 c = (omega arith, omega (arith, eight-inside (goal.at.put_number-requires-else-w-eq4 c).Else-w-eq4))
 
 pub returns-then-w-eq4 : goal.returns-then-w-eq4
 returns-then-w-eq4 c =
-    cell_written c.args.book.now c.put_word.new.book (number c.args.table) c.args.i c.args.x (omega arith) c.requires.0 c.requires.1 c.base_of-at.ensures (four (goal.at.returns-then-w-eq4 c).Then-w-eq4) c.put_word.ensures
+    cell_written c.args.book.now c.put_number.new.part (number c.args.table) c.args.i c.args.x (omega arith) c.requires.0 c.requires.1 c.base_of-at.ensures (four (goal.at.returns-then-w-eq4 c).Then-w-eq4) c.put_number.ensures
 
 pub returns-else-w-eq4 : goal.returns-else-w-eq4
 returns-else-w-eq4 c =
-    cell_written c.args.book.now c.put_long.new.book (number c.args.table) c.args.i c.args.x (omega arith) c.requires.0 c.requires.1 c.base_of-at.ensures (eight (goal.at.returns-else-w-eq4 c).Else-w-eq4) c.put_long.ensures
+    cell_written c.args.book.now c.put_number-else-w-eq4.new.part (number c.args.table) c.args.i c.args.x (omega arith) c.requires.0 c.requires.1 c.base_of-at.ensures (eight (goal.at.returns-else-w-eq4 c).Else-w-eq4) c.put_number-else-w-eq4.ensures
