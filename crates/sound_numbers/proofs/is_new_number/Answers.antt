@@ -1,7 +1,7 @@
 -- `sound_numbers::is_new_number` meets its contract.
 -- Assumes nothing.
 use borrow.Author.Rules.{rules}
-use Rattle.sound_numbers.proofs.Numbers.{no_number, none_next, not_marked, marked_next}
+use Rattle.sound_numbers.proofs.Numbers.{not_marked, marked_next}
 use Rattle.sound_numbers.proofs.is_new_number.Goals as goal
 
 pub returns-then-not-is_marked : goal.returns-then-not-is_marked
