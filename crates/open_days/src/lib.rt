@@ -4,53 +4,55 @@
 ghost use Rattle.std.specs.Prelude.{true, ◌≡◌, ◌<◌};
 ghost use Rattle.calendar.specs.Target.{open_day};
 ghost use Rattle.rules.specs.Requests.{open_or_none};
-ghost use Rattle.open_days.specs.Days.{OpenDays};
+ghost use Rattle.open_days.specs.Days.{AreOpen};
 
-// The slot of a day in a cache of 16 open days. A remainder by 16 would do as well, but makes the compiler load the day's last byte by itself.
-fn day_slot(day: u64) -> usize
+// The slot of a day among the 16 at hand. A remainder by 16 would do as well, but makes the compiler load the day's last byte by itself.
+fn slot_of(day: u64) -> usize
     ensures { result < 16 }
 {
     (day % 4294967296 * 2654435761 / 268435456 % 16) as usize
 }
 
-// Is a day open? A cache holds open days, each in its slot: most days of a book are one of a few.
-pub fn is_known_open(days: &[u64; 16], day: u64) -> bool
-    requires { OpenDays days.now }
-    ensures { result ≡ open_day day }
-{
-    let slot = day_slot(day);
-    if days[slot] == day {
-        return true;
+// Open days at hand, each in its slot: most days of a book are one of a few.
+#[derive(Clone, Copy, Debug)]
+pub struct OpenDays {
+    days: [u64; 16],
+    ghost open: { AreOpen days },
+}
+
+impl OpenDays {
+    // The first open day alone.
+    pub fn new() -> OpenDays {
+        OpenDays { days: [1; 16] }
     }
-    calendar::is_open(day)
-}
 
-// Puts an open day among those at hand.
-pub fn note_open(days: &mut [u64; 16], day: u64)
-    requires { OpenDays days.old × (open_day day ≡ true) }
-    ensures { OpenDays days.new }
-{
-    let slot = day_slot(day);
-    days[slot] = day;
-}
-
-// Is a closing day open, or none?
-pub fn is_open_or_none(days: &[u64; 16], day: u64) -> bool
-    requires { OpenDays days.now }
-    ensures { result ≡ open_or_none day }
-{
-    if day == 0 {
-        return true;
+    // Is a day open?
+    pub fn is_open(&self, day: u64) -> bool
+        ensures { result ≡ open_day day }
+    {
+        self.days[slot_of(day)] == day || calendar::is_open(day)
     }
-    is_known_open(days, day)
-}
 
-// Puts a sound closing day among those at hand, where there is one.
-pub fn note_open_or_none(days: &mut [u64; 16], day: u64)
-    requires { OpenDays days.old × (open_or_none day ≡ true) }
-    ensures { OpenDays days.new }
-{
-    if day != 0 {
-        note_open(days, day);
+    // Puts an open day among those at hand.
+    pub fn note(&mut self, day: u64)
+        requires { open_day day ≡ true }
+    {
+        self.days[slot_of(day)] = day;
+    }
+
+    // Is a closing day open, or none?
+    pub fn is_open_or_none(&self, day: u64) -> bool
+        ensures { result ≡ open_or_none day }
+    {
+        day == 0 || self.is_open(day)
+    }
+
+    // Puts a sound closing day among those at hand, where there is one.
+    pub fn note_open_or_none(&mut self, day: u64)
+        requires { open_or_none day ≡ true }
+    {
+        if day != 0 {
+            self.note(day);
+        }
     }
 }

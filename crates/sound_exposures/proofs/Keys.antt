@@ -10,8 +10,8 @@ use native.Mathlib.Omega.{arith}
 use lib.Dec.{eqb}
 use lib.ListN.{length, get_or, set, length-set, replicate, length-replicate}
 use lib.Seq.{get_or-set_same, get_or-set_other}
-use borrow.Author.Tests.{eqb-true}
-use Rattle.laws.proofs.Cases.{either}
+use borrow.Author.Tests.{eqb-true, ne_eqb, not-true}
+use Rattle.laws.proofs.Cases.{either, clash}
 use Rattle.book.specs.Layout.{in_use, exposure_givers, exposure_takers, exposure_baskets, exposure_closings, key_tables}
 use Rattle.book.specs.State.{State, rows_alike}
 use Rattle.rules.specs.ByRow.{same, other_key, distinct_key}
@@ -31,26 +31,29 @@ fails true b h = rw h
 fails false b h = refl
 
 -- a key at whose slot there is no mark differs from all before; and one more mark
-module _ (s : State) (marks : List ℕ) (e : ℕ) (m : KeysMarked s marks e) {p : ℕ} (pq : p ≡ slot_of s e) where
-  other : get_or marks p 0 ≡ 0 → (d : ℕ) → d < e → other_key s e d ≡ true
-  other z d l = ⊎_elim
-      (λ h.
-      let mark : get_or marks p 0 ≡ 1 = rw (pq ∙ alike_slot s e d h) (m.each d l) in
-      absurd (omega arith))
-      (λ h. fails (eqb (s in_use d) 1) (rows_alike s key_tables e d) h)
-      (either (rows_alike s key_tables e d))
+module _ (s : State) (marks : List Bool) (e : ℕ) (m : KeysMarked s marks e) {p : ℕ} (pq : p ≡ slot_of s e) where
+  other : get_or marks p false ≡ false → (d : ℕ) → d < e → other_key s e d ≡ true
+  other z d l = elim (ℕ_discrete (s in_use d) 1) [
+    | yes u ↦ ⊎_elim
+        (λ h.
+        let mark : get_or marks p false ≡ true = rw (pq ∙ alike_slot s e d h) (m.each d l u) in
+        clash {A = other_key s e d ≡ true} mark z)
+        (λ h. fails (eqb (s in_use d) 1) (rows_alike s key_tables e d) h)
+        (either (rows_alike s key_tables e d))
+    | no n ↦ rw (ne_eqb (s in_use d) 1 n)
+  ]
 
-  pub key_not_marked : get_or marks p 0 ≡ 0 → true ≡ distinct_key s e
-  key_not_marked z = sym (rw (all_of (other_key s e) e 0 (λ d a l. other z d (omega arith)), or-true))
+  pub key_not_marked : not (get_or marks p false) ≡ true → not (get_or marks p false) ≡ distinct_key s e
+  key_not_marked h = h ∙ sym (rw (all_of (other_key s e) e 0 (λ d a l. other (not-true (get_or marks p false) h) d (omega arith)), or-true))
 
-  pub keys_marked_next : p < 1024 → KeysMarked s (set marks p 1) (e + 1)
+  pub keys_marked_next : p < 1024 → KeysMarked s (set marks p true) (e + 1)
   keys_marked_next b =
       let inside : p < length marks = omega (arith, m.long) in
       record {
         long = simp length-set m.long;
-        each = λ d l. elim (ℕ_discrete (slot_of s d) p) [
-          | yes q ↦ rw (q, get_or-set_same marks p 1 0 inside)
-          | no q ↦ get_or-set_other marks p (slot_of s d) 1 0 q ∙ m.each d (before d l q)
+        each = λ d l u. elim (ℕ_discrete (slot_of s d) p) [
+          | yes q ↦ rw (q, get_or-set_same marks p true false inside)
+          | no q ↦ get_or-set_other marks p (slot_of s d) true false q ∙ m.each d (before d l q) u
         ];
       }
     where
@@ -60,5 +63,5 @@ module _ (s : State) (marks : List ℕ) (e : ℕ) (m : KeysMarked s marks e) {p 
         | no h ↦ omega arith
       ]
 
-pub keys_marked_none : (s : State) → KeysMarked s (replicate 1024 0) 0
-keys_marked_none s = record { long = length-replicate {A = ℕ} 1024 0; each = λ d l. absurd (omega arith) }
+pub keys_marked_none : (s : State) → KeysMarked s (replicate 1024 false) 0
+keys_marked_none s = record { long = length-replicate {A = Bool} 1024 false; each = λ d l u. absurd (omega arith) }

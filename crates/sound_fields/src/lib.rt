@@ -1,19 +1,18 @@
-// Document 01's soundness sentence, of one used request row: its fields.
+// Are the fields of one used request row sound?
 #![tactic(auto)]
 
-ghost use Rattle.std.specs.Prelude.{◌≡◌, ◌<◌, length};
-ghost use Rattle.book.specs.Layout.{book_length};
+ghost use Rattle.std.specs.Prelude.{◌≡◌, ◌<◌};
 ghost use Rattle.book.specs.State.{state};
 ghost use Rattle.rules.specs.ByRow.{return_names, sound_fop, sound_return, sound_kind, sound_fields};
-ghost use Rattle.open_days.specs.Days.{OpenDays};
 ghost use Rattle.sound_fields.specs.Rows.{Reads, marks_of};
 
 use book::Book;
 use book::layout::Table;
 use limits::GREATEST_AMOUNT;
+use open_days::OpenDays;
 
 // A used row, each field read once: the reference says nothing about soundness.
-#[derive(Clone, Copy)]
+#[derive(Clone, Copy, Debug, PartialEq, Eq)]
 pub struct Request {
     pub row: usize,
     pub number: u64,
@@ -32,26 +31,29 @@ pub struct Request {
     pub end: u64,
 }
 
-pub fn request_at(book: &Book, i: usize) -> Request
-    requires { i < 256 }
-    ensures { (result.row ≡ i) × Reads (state book.now) result }
-{
-    Request {
-        row: i,
-        number: book::get(book, Table::Numbers, i),
-        kind: book::get(book, Table::RequestKinds, i),
-        side: book::get(book, Table::Sides, i),
-        giver: book::get(book, Table::Givers, i),
-        taker: book::get(book, Table::Takers, i),
-        object: book::get(book, Table::BasketsOrExposures, i),
-        amount: book::get(book, Table::Amounts, i),
-        settlement: book::get(book, Table::Settlements, i),
-        closing: book::get(book, Table::Closings, i),
-        settled: book::get(book, Table::SettledAmounts, i),
-        partner: book::get(book, Table::Partners, i),
-        partial: book::get(book, Table::PairPartials, i),
-        cancel: book::get(book, Table::Cancels, i),
-        end: book::get(book, Table::Ends, i),
+impl Request {
+    // The used row i.
+    pub fn at(book: &Book, i: usize) -> Request
+        requires { i < 256 }
+        ensures { (result.row ≡ i) × Reads (state book.now) result }
+    {
+        Request {
+            row: i,
+            number: book::get(book, Table::Numbers, i),
+            kind: book::get(book, Table::RequestKinds, i),
+            side: book::get(book, Table::Sides, i),
+            giver: book::get(book, Table::Givers, i),
+            taker: book::get(book, Table::Takers, i),
+            object: book::get(book, Table::BasketsOrExposures, i),
+            amount: book::get(book, Table::Amounts, i),
+            settlement: book::get(book, Table::Settlements, i),
+            closing: book::get(book, Table::Closings, i),
+            settled: book::get(book, Table::SettledAmounts, i),
+            partner: book::get(book, Table::Partners, i),
+            partial: book::get(book, Table::PairPartials, i),
+            cancel: book::get(book, Table::Cancels, i),
+            end: book::get(book, Table::Ends, i),
+        }
     }
 }
 
@@ -60,96 +62,57 @@ fn does_return_name(book: &Book, q: Request) -> bool
     requires { Reads (state book.now) q }
     ensures { result ≡ return_names (state book.now) q.row }
 {
-    let object = q.object;
-    if 64 <= object {
-        return false;
-    }
-    let e = object as usize;
-    if book::get(book, Table::InUse, e) != 1 {
-        return false;
-    }
-    if book::get(book, Table::ExposureGivers, e) != q.giver {
-        return false;
-    }
-    book::get(book, Table::ExposureTakers, e) == q.taker
+    let e = q.object as usize;
+    e < 64
+        && book::get(book, Table::InUse, e) == 1
+        && book::get(book, Table::ExposureGivers, e) == q.giver
+        && book::get(book, Table::ExposureTakers, e) == q.taker
 }
 
-fn is_sound_fop(book: &Book, q: Request, days: &[u64; 16]) -> bool
-    requires { Reads (state book.now) q × OpenDays days.now }
+fn is_sound_fop(book: &Book, q: Request, days: &OpenDays) -> bool
+    requires { Reads (state book.now) q }
     ensures { result ≡ sound_fop (state book.now) q.row }
 {
     let least = book::get(book, Table::Tolerance, 0);
-    if !sound_setup::is_basket_named(book, q.object) {
-        return false;
-    }
-    if !sound_setup::is_between(least, GREATEST_AMOUNT, q.amount) {
-        return false;
-    }
-    open_days::is_open_or_none(days, q.closing)
+    sound_setup::is_basket_named(book, q.object)
+        && (least..=GREATEST_AMOUNT).contains(&q.amount)
+        && days.is_open_or_none(q.closing)
 }
 
 fn is_sound_return(book: &Book, q: Request) -> bool
     requires { Reads (state book.now) q }
     ensures { result ≡ sound_return (state book.now) q.row }
 {
-    if !does_return_name(book, q) {
-        return false;
-    }
-    if !sound_setup::is_between(1, GREATEST_AMOUNT, q.amount) {
-        return false;
-    }
-    q.closing == 0
+    does_return_name(book, q) && (1..=GREATEST_AMOUNT).contains(&q.amount) && q.closing == 0
 }
 
-// The fields that depend on the kind.
-fn is_sound_kind(book: &Book, q: Request, days: &[u64; 16]) -> bool
-    requires { Reads (state book.now) q × OpenDays days.now }
+// The fields that depend on the kind, as the book numbers it.
+fn is_sound_kind(book: &Book, q: Request, days: &OpenDays) -> bool
+    requires { Reads (state book.now) q }
     ensures { result ≡ sound_kind (state book.now) q.row }
 {
-    if q.kind == 6 {
-        return is_sound_fop(book, q, days);
+    match q.kind {
+        6 => is_sound_fop(book, q, days),
+        7 => is_sound_return(book, q),
+        _ => false,
     }
-    if q.kind == 7 {
-        return is_sound_return(book, q);
-    }
-    false
 }
 
 // The marks of a row, and what it has settled.
 fn are_sound_marks(q: Request) -> bool
     ensures { result ≡ marks_of q }
 {
-    if q.amount < q.settled {
-        return false;
-    }
-    if 1 < q.partial {
-        return false;
-    }
-    if 1 < q.cancel {
-        return false;
-    }
-    q.end <= 1
+    q.settled <= q.amount && q.partial <= 1 && q.cancel <= 1 && q.end <= 1
 }
 
-pub fn are_sound_fields(book: &Book, q: Request, days: &[u64; 16]) -> bool
-    requires { Reads (state book.now) q × OpenDays days.now }
+pub fn are_sound_fields(book: &Book, q: Request, days: &OpenDays) -> bool
+    requires { Reads (state book.now) q }
     ensures { result ≡ sound_fields (state book.now) q.row }
 {
-    let next = book::get(book, Table::NextNumber, 0);
-    if next <= q.number {
-        return false;
-    }
-    if 1 < q.side {
-        return false;
-    }
-    if !sound_setup::are_sound_parties(book, q.giver, q.taker) {
-        return false;
-    }
-    if !is_sound_kind(book, q, days) {
-        return false;
-    }
-    if !open_days::is_known_open(days, q.settlement) {
-        return false;
-    }
-    are_sound_marks(q)
+    q.number < book::get(book, Table::NextNumber, 0)
+        && q.side <= 1
+        && sound_setup::are_sound_parties(book, q.giver, q.taker)
+        && is_sound_kind(book, q, days)
+        && days.is_open(q.settlement)
+        && are_sound_marks(q)
 }

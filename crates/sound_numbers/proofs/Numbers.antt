@@ -1,7 +1,7 @@
 -- Numbers by their marks, and what each way out of the tests of a number shows.
 -- Assumes nothing.
 use mathlib.Core.Path.{◌≡◌, sym, ◌∙◌}
-use mathlib.Core.Bool.{true, false, or-true}
+use mathlib.Core.Bool.{Bool, true, false, not, or-true}
 use mathlib.Core.List.{List}
 use Prim.Native.Nat.{ℕ, ◌+◌, ◌-◌, ◌%◌, ◌<◌}
 use native.Mathlib.Nat.{sub-zero}
@@ -10,8 +10,9 @@ use native.Mathlib.Omega.{arith}
 use lib.Dec.{eqb}
 use lib.ListN.{length, get_or, set, length-set, replicate, length-replicate}
 use lib.Seq.{get_or-set_same, get_or-set_other}
-use borrow.Author.Tests.{eq-eqb, ne_eqb}
+use borrow.Author.Tests.{ne_eqb, not-true}
 use Rattle.laws.specs.Search.{all}
+use Rattle.laws.proofs.Cases.{clash}
 use Rattle.book.specs.Layout.{numbers}
 use Rattle.book.specs.State.{State}
 use Rattle.rules.specs.ByRow.{differs, distinct_number}
@@ -20,43 +21,31 @@ use Rattle.sound_numbers.specs.Numbers.{Marked}
 
 -- distinct numbers
 module _ (s : State) (i : ℕ) {n : ℕ} (nq : n ≡ s numbers i) where
-  pub no_number : n ≡ 0 → true ≡ distinct_number s i
-  no_number h = rw (← nq, eq-eqb n 0 h)
-
   pub numbers_of_lem : (n ≡ 0 → ⊥) → all (differs s i) (i - 0) 0 ≡ distinct_number s i
   numbers_of_lem h =
       let mark : eqb (s numbers i) 0 ≡ false = ne_eqb (s numbers i) 0 (λ m. h (nq ∙ m)) in
       rw (mark, sub-zero)
 
 -- a number at whose slot there is no mark differs from all before; and one more mark
-module _ (s : State) (marks : List ℕ) (i : ℕ) (m : Marked s marks i) {n : ℕ} (nq : n ≡ s numbers i) where
-  pub none_next : n ≡ 0 → Marked s marks (i + 1)
-  none_next z = record {
-    long = m.long;
-    each = λ j l u. elim (ℕ_discrete j i) [
-      | yes e ↦ absurd (u (rw e (sym nq ∙ z)))
-      | no e ↦ m.each j (omega arith) u
-    ];
-  }
-
+module _ (s : State) (marks : List Bool) (i : ℕ) (m : Marked s marks i) {n : ℕ} (nq : n ≡ s numbers i) where
   module _ (used : n ≡ 0 → ⊥) where
-    other : get_or marks (n % 4096) 0 ≡ 0 → (j : ℕ) → j < i → differs s i j ≡ true
+    other : get_or marks (n % 4096) false ≡ false → (j : ℕ) → j < i → differs s i j ≡ true
     other z j l = rw (ne_eqb (s numbers i) (s numbers j) (λ e.
         let same : n ≡ s numbers j = nq ∙ e in
-        let mark : get_or marks (n % 4096) 0 ≡ 1 = rw same (m.each j l (λ y. used (same ∙ y))) in
-        omega arith))
+        let mark : get_or marks (n % 4096) false ≡ true = rw same (m.each j l (λ y. used (same ∙ y))) in
+        clash {A = ⊥} mark z))
 
-    pub not_marked : get_or marks (n % 4096) 0 ≡ 0 → true ≡ distinct_number s i
-    not_marked z = sym (rw (all_of (differs s i) i 0 (λ j a l. other z j (omega arith)), or-true))
+    pub not_marked : not (get_or marks (n % 4096) false) ≡ true → not (get_or marks (n % 4096) false) ≡ distinct_number s i
+    not_marked h = h ∙ sym (rw (all_of (differs s i) i 0 (λ j a l. other (not-true (get_or marks (n % 4096) false) h) j (omega arith)), or-true))
 
-  pub marked_next : Marked s (set marks (n % 4096) 1) (i + 1)
+  pub marked_next : Marked s (set marks (n % 4096) true) (i + 1)
   marked_next =
       let inside : n % 4096 < length marks = omega (arith, m.long) in
       record {
         long = simp length-set m.long;
         each = λ j l u. elim (ℕ_discrete (s numbers j % 4096) (n % 4096)) [
-          | yes q ↦ rw (q, get_or-set_same marks (n % 4096) 1 0 inside)
-          | no q ↦ get_or-set_other marks (n % 4096) (s numbers j % 4096) 1 0 q ∙ m.each j (before j l q) u
+          | yes q ↦ rw (q, get_or-set_same marks (n % 4096) true false inside)
+          | no q ↦ get_or-set_other marks (n % 4096) (s numbers j % 4096) true false q ∙ m.each j (before j l q) u
         ];
       }
     where
@@ -66,5 +55,5 @@ module _ (s : State) (marks : List ℕ) (i : ℕ) (m : Marked s marks i) {n : �
         | no e ↦ omega arith
       ]
 
-pub marked_none : (s : State) → Marked s (replicate 4096 0) 0
-marked_none s = record { long = length-replicate {A = ℕ} 4096 0; each = λ j l u. absurd (omega arith) }
+pub marked_none : (s : State) → Marked s (replicate 4096 false) 0
+marked_none s = record { long = length-replicate {A = Bool} 4096 false; each = λ j l u. absurd (omega arith) }

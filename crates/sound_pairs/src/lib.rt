@@ -1,8 +1,8 @@
-// Document 01's soundness sentence, of one used request row: its pair, or nothing settled where it has none.
+// Is one used request row sound besides its fields: its pair, or nothing settled where it has none?
 #![tactic(auto)]
 
-ghost use Rattle.std.specs.Prelude.{◌||◌, ◌≡◌, ◌+◌, ◌<◌, eqb, ltb, length};
-ghost use Rattle.book.specs.Layout.{book_length, term_tables};
+ghost use Rattle.std.specs.Prelude.{◌||◌, ◌≡◌, ◌+◌, ◌<◌, eqb, ltb};
+ghost use Rattle.book.specs.Layout.{term_tables};
 ghost use Rattle.book.specs.State.{state, rows_alike};
 ghost use Rattle.rules.specs.Requests.{is_return, exposure_of_fop};
 ghost use Rattle.rules.specs.ByRow.{marks_alike, sound_pair, sound_paired};
@@ -11,22 +11,17 @@ ghost use Rattle.sound_pairs.specs.Rest.{unpaired_of, sound_rest};
 
 use book::Book;
 use book::layout::Table;
+use exposure_search::ExposureKey;
 use sound_fields::Request;
 
 // Is one of two sides 0 and the other 1?
 fn are_opposite(a: u64, b: u64) -> bool
     ensures { result ≡ eqb (a + b) 1 }
 {
-    if a == 0 {
-        return b == 1;
-    }
-    if a == 1 {
-        return b == 0;
-    }
-    false
+    (a == 0 && b == 1) || (a == 1 && b == 0)
 }
 
-// The six fields that a pair has in common, from the giver to the closing.
+// The six fields that a pair has in common, from the giver to the closing: one number shows all that differ, and is tested once.
 fn are_terms_alike(book: &Book, q: Request, j: usize) -> bool
     requires { Reads (state book.now) q × (j < 256) }
     ensures { result ≡ rows_alike (state book.now) term_tables q.row j }
@@ -50,13 +45,7 @@ fn are_marks_alike(book: &Book, q: Request, j: usize) -> bool
     let settled = book::get(book, Table::SettledAmounts, j);
     let end = book::get(book, Table::Ends, j);
     let partial = book::get(book, Table::PairPartials, j);
-    if q.settled != settled {
-        return false;
-    }
-    if q.end != end {
-        return false;
-    }
-    q.partial == partial
+    q.settled == settled && q.end == end && q.partial == partial
 }
 
 // Two rows that are paired: they name each other, their sides are opposite, and the rest is equal. The partner's row is read
@@ -73,19 +62,7 @@ fn is_sound_pair(book: &Book, q: Request, j: usize) -> bool
     let side = book::get(book, Table::Sides, j);
     let terms = are_terms_alike(book, q, j);
     let marks = are_marks_alike(book, q, j);
-    if partner != q.row as u64 + 1 {
-        return false;
-    }
-    if !are_opposite(q.side, side) {
-        return false;
-    }
-    if q.kind != kind {
-        return false;
-    }
-    if !terms {
-        return false;
-    }
-    marks
+    partner == q.row as u64 + 1 && are_opposite(q.side, side) && q.kind == kind && terms && marks
 }
 
 // Is it a return, or does its FOP belong to a used exposure?
@@ -93,10 +70,13 @@ fn does_belong(book: &Book, hints: &[u8; 1024], q: Request) -> bool
     requires { Reads (state book.now) q }
     ensures { result ≡ (is_return (state book.now) q.row || ltb (exposure_of_fop (state book.now) q.row) 64) }
 {
-    if q.kind == 7 {
-        return true;
-    }
-    exposure_search::has_exposure(book, hints, q.giver, q.taker, q.object, q.closing)
+    let key = ExposureKey {
+        giver: q.giver,
+        taker: q.taker,
+        basket: q.object,
+        closing: q.closing,
+    };
+    q.kind == 7 || exposure_search::has_exposure(book, hints, key)
 }
 
 fn is_sound_paired(book: &Book, hints: &[u8; 1024], q: Request) -> bool
@@ -104,19 +84,13 @@ fn is_sound_paired(book: &Book, hints: &[u8; 1024], q: Request) -> bool
     ensures { result ≡ sound_paired (state book.now) q.row }
 {
     let j = (q.partner - 1) as usize;
-    if !is_sound_pair(book, q, j) {
-        return false;
-    }
-    does_belong(book, hints, q)
+    is_sound_pair(book, q, j) && does_belong(book, hints, q)
 }
 
 fn is_sound_unpaired(q: Request) -> bool
     ensures { result ≡ unpaired_of q }
 {
-    if q.settled != 0 {
-        return false;
-    }
-    q.partial == 0
+    q.settled == 0 && q.partial == 0
 }
 
 // What a used row has besides its fields: a pair, or nothing settled.

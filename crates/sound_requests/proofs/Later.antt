@@ -3,10 +3,10 @@
 use mathlib.Core.Path.{◌≡◌, sym, ◌∙◌}
 use mathlib.Core.Bool.{Bool, true, false, not, ◌&&◌, and-false, or-true}
 use mathlib.Core.Logic.{◌⊎◌, inl, inr, ⊎_elim}
-use Prim.Native.Nat.{ℕ, ◌+◌, ◌*◌, ◌-◌, ◌≤◌, ◌<◌}
+use Prim.Native.Nat.{ℕ, ◌+◌, ◌*◌, ◌≤◌, ◌<◌}
 use native.Mathlib.Decide.{ℕ_discrete, dec_lt}
 use native.Mathlib.Omega.{arith}
-use lib.Dec.{leb}
+use lib.Dec.{leb, ltb}
 use borrow.Author.Tests.{ne_eqb, lt-leb, le-ltb, leb-true, leb-false, not-false}
 use Rattle.laws.specs.Search.{all}
 use Rattle.laws.proofs.Cases.{either}
@@ -35,7 +35,7 @@ module _ (s : State) (i j : ℕ) (l : Later s i j) where
   pub later_not_named : {p : ℕ} → p ≡ s partners j → (p ≡ i + 1 → ⊥) → false ≡ sound_row s i
   later_not_named pq h = rw (by_parts, partner, ne_eqb (s partners j) (i + 1) (λ m. h (pq ∙ m)), and-false, and-false)
 
-  pub later_number : {x n : ℕ} → x ≡ s next_number 0 → n ≡ s numbers i → x ≤ n → false ≡ sound_row s i
+  pub later_number : {x n : ℕ} → x ≡ s next_number 0 → n ≡ s numbers i → x ≤ n → ltb n x ≡ sound_row s i
   later_number {x} {n} xq nq h = rw (by_parts, ← xq, ← nq, le-ltb n x h)
 
   bad_cancel : 1 < s cancels i → sound_fields s i ≡ false
@@ -122,15 +122,6 @@ module _ (s : State) (i j : ℕ) (l : Later s i j) where
       (λ t. t ∙ sym (later_sound (sym pq ∙ h) (omega arith) (omega (arith, leb-true c 1 t))))
       (λ t. t ∙ sym (rw (by_parts, bad_cancel (omega (arith, leb-false c 1 t)))))
       (either (leb c 1))
-
--- an earlier partner of a used row, by what was read
-pub later_of : (s : State) (i : ℕ) {n p : ℕ} → Passed s i → n ≡ s numbers i → (n ≡ 0 → ⊥) → p ≡ s partners i → (p ≡ 0 → ⊥) → p ≤ i → Later s i (p - 1)
-later_of s i {n} {p} r nq nn pq pn h = record {
-  used = omega arith;
-  before = omega arith;
-  named = omega arith;
-  earlier = r.each (p - 1) (omega arith);
-}
 
 -- the rows before, one more, and sixteen more
 pub passed_none : (s : State) → Passed s (16 * 0)

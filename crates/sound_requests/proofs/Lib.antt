@@ -1,3 +1,2 @@
-pub mod Blocks
-pub mod Later
-pub mod Returns
+mod Blocks
+mod Later

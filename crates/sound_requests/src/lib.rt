@@ -1,29 +1,27 @@
-// Document 01's soundness sentence, of all request rows: used ones by their fields and pairs, the others by holding nothing.
+// Are all request rows sound: used ones by their fields and pairs, the others by holding nothing?
 #![tactic(auto)]
 
-ghost use Rattle.std.specs.Prelude.{true, ◌≡◌, ◌*◌, ◌<◌, length};
+ghost use Rattle.std.specs.Prelude.{true, ◌≡◌, ◌*◌, ◌<◌};
 ghost use Rattle.laws.specs.Search.{all};
-ghost use Rattle.book.specs.Layout.{book_length, numbers, request_kinds};
+ghost use Rattle.book.specs.Layout.{numbers};
 ghost use Rattle.book.specs.State.{state};
 ghost use Rattle.rules.specs.ByRow.{sound_row};
-ghost use Rattle.open_days.specs.Days.{OpenDays};
 ghost use Rattle.row_tests.specs.Rows.{HaveRow};
 ghost use Rattle.book.specs.Tables.{numbers_of};
 ghost use Rattle.sound_requests.specs.Rows.{Later, Passed, empty_tables};
 
 use book::Book;
 use book::layout::{REQUEST_TABLES, Table};
+use open_days::OpenDays;
+use sound_fields::Request;
 
 // A used row that is not the later one of a pair.
-fn is_sound_first(book: &Book, hints: &[u8; 1024], days: &[u64; 16], i: usize) -> bool
-    requires { (i < 256) × OpenDays days.now × (0 < state book.now numbers i) }
+fn is_sound_first(book: &Book, hints: &[u8; 1024], days: &OpenDays, i: usize) -> bool
+    requires { (i < 256) × (0 < state book.now numbers i) }
     ensures { result ≡ sound_row (state book.now) i }
 {
-    let q = sound_fields::request_at(book, i);
-    if !sound_fields::are_sound_fields(book, q, days) {
-        return false;
-    }
-    sound_pairs::is_sound_rest(book, hints, q)
+    let q = Request::at(book, i);
+    sound_fields::are_sound_fields(book, q, days) && sound_pairs::is_sound_rest(book, hints, q)
 }
 
 // The later row i of a pair whose earlier row j is sound: where they name each other, all that they have in common is sound.
@@ -34,10 +32,8 @@ fn is_sound_later(book: &Book, i: usize, j: usize) -> bool
     if book::get(book, Table::Partners, j) != i as u64 + 1 {
         return false;
     }
-    if book::get(book, Table::NextNumber, 0) <= book::get(book, Table::Numbers, i) {
-        return false;
-    }
-    book::get(book, Table::Cancels, i) <= 1
+    book::get(book, Table::Numbers, i) < book::get(book, Table::NextNumber, 0)
+        && book::get(book, Table::Cancels, i) <= 1
 }
 
 // Do sixteen rows hold nothing, in each of some tables?
@@ -48,8 +44,8 @@ fn are_tables_empty(book: &Book, tables: &[Table], k: usize) -> bool
     tables.iter().all(|table| row_tests::are_rows_empty(book, *table, 16 * k, 16))
 }
 
-fn is_sound_row(book: &Book, hints: &[u8; 1024], days: &[u64; 16], i: usize) -> bool
-    requires { (i < 256) × OpenDays days.now × Passed (state book.now) i }
+fn is_sound_row(book: &Book, hints: &[u8; 1024], days: &OpenDays, i: usize) -> bool
+    requires { (i < 256) × Passed (state book.now) i }
     ensures { result ≡ sound_row (state book.now) i }
 {
     let number = book::get(book, Table::Numbers, i);
@@ -57,29 +53,24 @@ fn is_sound_row(book: &Book, hints: &[u8; 1024], days: &[u64; 16], i: usize) -> 
     if number == 0 {
         return row_tests::is_blank(book, &REQUEST_TABLES, i);
     }
-    if partner != 0 {
-        if partner <= i as u64 {
-            return is_sound_later(book, i, (partner - 1) as usize);
-        }
+    if partner != 0 && partner <= i as u64 {
+        return is_sound_later(book, i, (partner - 1) as usize);
     }
     is_sound_first(book, hints, days, i)
 }
 
 // Puts the days of a sound row among those at hand.
-fn note_days(days: &mut [u64; 16], book: &Book, i: usize)
-    requires { (i < 256) × OpenDays days.old × (sound_row (state book.now) i ≡ true) }
-    ensures { OpenDays days.new }
+fn note_days(days: &mut OpenDays, book: &Book, i: usize)
+    requires { (i < 256) × (sound_row (state book.now) i ≡ true) }
 {
-    let settlement = book::get(book, Table::Settlements, i);
-    let closing = book::get(book, Table::Closings, i);
-    open_days::note_open_or_none(days, settlement);
-    open_days::note_open_or_none(days, closing);
+    days.note_open_or_none(book::get(book, Table::Settlements, i));
+    days.note_open_or_none(book::get(book, Table::Closings, i));
 }
 
 // Sixteen rows, one after the other: those before are sound.
-fn are_each_sound(book: &Book, hints: &[u8; 1024], days: &mut [u64; 16], k: usize) -> bool
-    requires { (k < 16) × OpenDays days.old × Passed (state book.now) (16 * k) }
-    ensures { (result ≡ all (sound_row (state book.now)) 16 (16 * k)) × OpenDays days.new }
+fn are_each_sound(book: &Book, hints: &[u8; 1024], days: &mut OpenDays, k: usize) -> bool
+    requires { (k < 16) × Passed (state book.now) (16 * k) }
+    ensures { result ≡ all (sound_row (state book.now)) 16 (16 * k) }
 {
     let end = 16 * k + 16;
     for i in 16 * k..end {
@@ -92,9 +83,9 @@ fn are_each_sound(book: &Book, hints: &[u8; 1024], days: &mut [u64; 16], k: usiz
 }
 
 // The same: where none of the sixteen is used, table by table, each with sixteen bytes at a time.
-fn are_sixteen_sound(book: &Book, hints: &[u8; 1024], days: &mut [u64; 16], k: usize) -> bool
-    requires { (k < 16) × OpenDays days.old × Passed (state book.now) (16 * k) }
-    ensures { (result ≡ all (sound_row (state book.now)) 16 (16 * k)) × OpenDays days.new }
+fn are_sixteen_sound(book: &Book, hints: &[u8; 1024], days: &mut OpenDays, k: usize) -> bool
+    requires { (k < 16) × Passed (state book.now) (16 * k) }
+    ensures { result ≡ all (sound_row (state book.now)) 16 (16 * k) }
 {
     if row_tests::are_rows_empty(book, Table::Numbers, 16 * k, 16) {
         return are_tables_empty(book, &REQUEST_TABLES, k);
@@ -107,7 +98,7 @@ pub fn are_sound_rows(book: &Book) -> bool
 {
     let mut hints = [0u8; 1024];
     exposure_search::put_hints(&mut hints, book);
-    let mut days = [1u64; 16];
+    let mut days = OpenDays::new();
     for k in 0..16 {
         if !are_sixteen_sound(book, &hints, &mut days, k) {
             return false;

@@ -1,42 +1,28 @@
-// Document 01's soundness sentence, of what is set up: the book's head, securities, participants, baskets, spare rows.
+// Is what is set up sound: the book's head, securities, participants, baskets, spare rows?
 #![tactic(auto)]
 
-ghost use Rattle.std.specs.Prelude.{true, ◌≡◌, ◌<◌, length};
-ghost use Rattle.laws.specs.Search.{all, between};
-ghost use Rattle.book.specs.Layout.{book_length, spares, rows_of};
+ghost use Rattle.std.specs.Prelude.{true, ◌≡◌, ◌<◌};
+ghost use Rattle.laws.specs.Search.{all};
+ghost use Rattle.book.specs.Layout.{spares, rows_of};
 ghost use Rattle.book.specs.State.{state};
 ghost use Rattle.rules.specs.ByRow.{sound_head, sound_security, sound_profile, sound_participant, sound_basket, sound_parties, basket_named, is_spare};
-ghost use Rattle.open_days.specs.Days.{OpenDays};
 
 use book::Book;
 use book::layout::Table;
 use limits::{GREATEST_HAIRCUT, GREATEST_LOT, GREATEST_NEXT, GREATEST_PRICE, GREATEST_TOLERANCE};
-
-// Is a number in a range?
-pub fn is_between(low: u64, high: u64, x: u64) -> bool
-    ensures { result ≡ between low high x }
-{
-    if x < low {
-        return false;
-    }
-    x <= high
-}
+use open_days::OpenDays;
 
 // The head: an open today, a tolerance and a next number in their ranges.
 pub fn is_sound_head(book: &Book) -> bool
     ensures { result ≡ sound_head (state book.now) }
 {
-    if !calendar::is_open(book::get(book, Table::Today, 0)) {
-        return false;
-    }
-    if !is_between(1, GREATEST_TOLERANCE, book::get(book, Table::Tolerance, 0)) {
-        return false;
-    }
-    is_between(1, GREATEST_NEXT, book::get(book, Table::NextNumber, 0))
+    calendar::is_open(book::get(book, Table::Today, 0))
+        && (1..=GREATEST_TOLERANCE).contains(&book::get(book, Table::Tolerance, 0))
+        && (1..=GREATEST_NEXT).contains(&book::get(book, Table::NextNumber, 0))
 }
 
-fn is_sound_security(book: &Book, i: usize, days: &[u64; 16]) -> bool
-    requires { (i < 64) × OpenDays days.now }
+fn is_sound_security(book: &Book, i: usize, days: &OpenDays) -> bool
+    requires { i < 64 }
     ensures { result ≡ sound_security (state book.now) i }
 {
     let lot = book::get(book, Table::Lots, i);
@@ -44,41 +30,28 @@ fn is_sound_security(book: &Book, i: usize, days: &[u64; 16]) -> bool
     let haircut = book::get(book, Table::Haircuts, i);
     let quote = book::get(book, Table::QuoteDays, i);
     if lot == 0 {
-        if price != 0 {
-            return false;
-        }
-        if haircut != 0 {
-            return false;
-        }
-        return quote == 0;
+        return price == 0 && haircut == 0 && quote == 0;
     }
-    if GREATEST_LOT < lot {
-        return false;
-    }
-    if !is_between(1, GREATEST_PRICE, price) {
-        return false;
-    }
-    if GREATEST_HAIRCUT < haircut {
-        return false;
-    }
-    open_days::is_known_open(days, quote)
+    lot <= GREATEST_LOT
+        && (1..=GREATEST_PRICE).contains(&price)
+        && haircut <= GREATEST_HAIRCUT
+        && days.is_open(quote)
 }
 
 // Puts the quote day of a sound security among those at hand.
-fn note_quote(days: &mut [u64; 16], book: &Book, i: usize)
-    requires { (i < 64) × OpenDays days.old × (sound_security (state book.now) i ≡ true) }
-    ensures { OpenDays days.new }
+fn note_quote(days: &mut OpenDays, book: &Book, i: usize)
+    requires { (i < 64) × (sound_security (state book.now) i ≡ true) }
 {
     let quote = book::get(book, Table::QuoteDays, i);
     if book::get(book, Table::Lots, i) != 0 {
-        open_days::note_open(days, quote);
+        days.note(quote);
     }
 }
 
 pub fn are_sound_securities(book: &Book) -> bool
     ensures { result ≡ all (sound_security (state book.now)) 64 0 }
 {
-    let mut days = [1u64; 16];
+    let mut days = OpenDays::new();
     for i in 0..64 {
         if !is_sound_security(book, i, &days) {
             return false;
@@ -92,52 +65,31 @@ fn is_sound_profile(mode: u64, list: u64, partial: u64) -> bool
     ensures { result ≡ sound_profile mode list partial }
 {
     if mode == 0 {
-        if list != 0 {
-            return false;
-        }
-        return partial == 0;
+        return list == 0 && partial == 0;
     }
-    if 3 < mode {
-        return false;
-    }
-    partial <= 1
+    mode <= 3 && partial <= 1
 }
 
+// Both profiles; a change waits only where a profile is in force.
 fn is_sound_participant(book: &Book, p: usize) -> bool
     requires { p < 32 }
     ensures { result ≡ sound_participant (state book.now) p }
 {
     let mode = book::get(book, Table::Modes, p);
+    let list = book::get(book, Table::Lists, p);
+    let partial = book::get(book, Table::Partials, p);
     let waiting = book::get(book, Table::WaitingModes, p);
-    if !is_sound_profile(
-        mode,
-        book::get(book, Table::Lists, p),
-        book::get(book, Table::Partials, p),
-    ) {
-        return false;
-    }
-    if !is_sound_profile(
-        waiting,
-        book::get(book, Table::WaitingLists, p),
-        book::get(book, Table::WaitingPartials, p),
-    ) {
-        return false;
-    }
-    if mode != 0 {
-        return true;
-    }
-    waiting == 0
+    let waiting_list = book::get(book, Table::WaitingLists, p);
+    let waiting_partial = book::get(book, Table::WaitingPartials, p);
+    is_sound_profile(mode, list, partial)
+        && is_sound_profile(waiting, waiting_list, waiting_partial)
+        && (mode != 0 || waiting == 0)
 }
 
 pub fn are_sound_participants(book: &Book) -> bool
     ensures { result ≡ all (sound_participant (state book.now)) 32 0 }
 {
-    for p in 0..32 {
-        if !is_sound_participant(book, p) {
-            return false;
-        }
-    }
-    true
+    (0..32).all(|p| is_sound_participant(book, p))
 }
 
 fn is_sound_basket(book: &Book, b: usize) -> bool
@@ -154,12 +106,7 @@ fn is_sound_basket(book: &Book, b: usize) -> bool
 pub fn are_sound_baskets(book: &Book) -> bool
     ensures { result ≡ all (sound_basket (state book.now)) 16 0 }
 {
-    for b in 0..16 {
-        if !is_sound_basket(book, b) {
-            return false;
-        }
-    }
-    true
+    (0..16).all(|b| is_sound_basket(book, b))
 }
 
 // The spare rows hold nothing.
@@ -173,27 +120,16 @@ pub fn are_sound_spares(book: &Book) -> bool
 pub fn are_sound_parties(book: &Book, giver: u64, taker: u64) -> bool
     ensures { result ≡ sound_parties (state book.now) giver taker }
 {
-    if 32 <= giver {
-        return false;
-    }
-    if 32 <= taker {
-        return false;
-    }
-    if book::get(book, Table::Modes, giver as usize) == 0 {
-        return false;
-    }
-    if book::get(book, Table::Modes, taker as usize) == 0 {
-        return false;
-    }
-    giver != taker
+    giver < 32
+        && taker < 32
+        && book::get(book, Table::Modes, giver as usize) != 0
+        && book::get(book, Table::Modes, taker as usize) != 0
+        && giver != taker
 }
 
 // Is a basket set up?
 pub fn is_basket_named(book: &Book, b: u64) -> bool
     ensures { result ≡ basket_named (state book.now) b }
 {
-    if 16 <= b {
-        return false;
-    }
-    book::get(book, Table::Maps, b as usize) != 0
+    b < 16 && book::get(book, Table::Maps, b as usize) != 0
 }

@@ -4,11 +4,11 @@ use mathlib.Core.Path.{◌≡◌, refl, sym, ◌∙◌}
 use mathlib.Core.Bool.{Bool, true, false, not, ◌&&◌, cond, and-false, or-false}
 use mathlib.Core.List.{List}
 use mathlib.Core.Logic.{⊎_elim}
-use Prim.Native.Nat.{ℕ, ◌+◌, ◌*◌, ◌-◌, ◌%◌, ◌≤◌, ◌<◌}
+use Prim.Native.Nat.{ℕ, ◌+◌, ◌*◌, ◌-◌, ◌≤◌, ◌<◌}
 use native.Mathlib.Nat.{add-zero}
 use native.Mathlib.Decide.{ℕ_discrete, dec_lt}
 use native.Mathlib.Omega.{arith}
-use lib.Dec.{eqb, leb}
+use lib.Dec.{eqb}
 use lib.ListN.{length, get_or, set, length-set, replicate, length-replicate, get_or-replicate}
 use lib.Seq.{get_or-set_same, get_or-set_other}
 use borrow.Author.Tests.{eq-eqb, ne_eqb, eqb-true, le-leb, leb-true, not-true, not-false}
@@ -16,7 +16,7 @@ use Rattle.laws.specs.Search.{all}
 use Rattle.laws.specs.Sum.{sum}
 use Rattle.laws.proofs.Cases.{either, clash, and_left, and_right}
 use Rattle.laws.proofs.Sum.{sum_next, sum_mono}
-use Rattle.book.specs.Layout.{lots, in_use, exposure_givers, exposure_amounts, accounts, positions}
+use Rattle.book.specs.Layout.{in_use, exposure_givers, exposure_amounts, accounts, positions}
 use Rattle.book.specs.State.{State}
 use Rattle.book.specs.Fits.{Fits}
 use Rattle.rules.specs.Stock.{position_from, holding}
@@ -25,13 +25,6 @@ use Rattle.facts.proofs.Truth.{all_of, below}
 use Rattle.facts.proofs.Rows.{used_exposure, no_exposure, used_or_not}
 use Rattle.row_tests.specs.Bytes.{empty_rows}
 use Rattle.sound_stocks.specs.Stocks.{small_account, small_accounts, in_lots, sound_stocks, Stocking, Held, Adding, Judged}
-
--- whole lots
-pub lots_unset : (s : State) (i n : ℕ) {l : ℕ} → l ≡ s lots i → l ≡ 0 → false ≡ in_lots s i n
-lots_unset s i n q z = rw (eq-eqb (s lots i) 0 (sym q ∙ z))
-
-pub by_lot : (s : State) (i n : ℕ) {l : ℕ} → l ≡ s lots i → (l ≡ 0 → ⊥) → eqb (n % l) 0 ≡ in_lots s i n
-by_lot s i n q z = rw (ne_eqb (s lots i) 0 (λ p. z (q ∙ p)), ← q)
 
 -- what sound stocks say of each position and holding
 module _ (s : State) (h : sound_stocks s ≡ true) where
@@ -64,9 +57,6 @@ module _ (s : State) {A : Type 0} where
     judged_ends f = sym (j.fail (not-true b f))
 
 -- accounts by themselves
-pub by_account : (s : State) (p i : ℕ) {x : ℕ} → x ≡ s accounts (64 * p + i) → leb x 500000000 ≡ small_account s p i
-by_account s p i q = rw q
-
 pub account_nothing : (s : State) (p : ℕ) {r : Bool} → r ≡ empty_rows s accounts (64 * p) 64 → r ≡ true → true ≡ small_accounts s p
 account_nothing s p e t =
     sym (all_of (small_account s p) 64 0 (λ i a l.

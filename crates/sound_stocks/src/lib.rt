@@ -1,10 +1,9 @@
-// Document 01's soundness sentence, of what is held: positions in whole lots, a giver's accounts and positions within the limit.
+// Is what is held sound: positions in whole lots, a giver's accounts and positions within the limit?
 // One pass over the positions tests both, and passes over nominals of 0.
 #![tactic(auto)]
 
-ghost use Rattle.std.specs.Prelude.{true, ◌≡◌, ◌+◌, ◌*◌, ◌<◌, length};
+ghost use Rattle.std.specs.Prelude.{true, ◌≡◌, ◌+◌, ◌*◌, ◌<◌};
 ghost use Rattle.laws.specs.Search.{all};
-ghost use Rattle.book.specs.Layout.{book_length};
 ghost use Rattle.book.specs.State.{state};
 ghost use Rattle.rules.specs.ByRow.{sound_exposure};
 ghost use Rattle.sound_stocks.specs.Stocks.{small_account, small_accounts, in_lots, sound_stocks, Stocking, Held, Adding, Judged};
@@ -28,23 +27,13 @@ fn are_small_accounts_of(book: &Book, p: usize) -> bool
     if row_tests::are_rows_empty(book, Table::Accounts, 64 * p, 64) {
         return true;
     }
-    for i in 0..64 {
-        if !is_small_account(book, p, i) {
-            return false;
-        }
-    }
-    true
+    (0..64).all(|i| is_small_account(book, p, i))
 }
 
 fn are_small_accounts(book: &Book) -> bool
     ensures { result ≡ all (small_accounts (state book.now)) 32 0 }
 {
-    for p in 0..32 {
-        if !are_small_accounts_of(book, p) {
-            return false;
-        }
-    }
-    true
+    (0..32).all(|p| are_small_accounts_of(book, p))
 }
 
 // Is a nominal in whole lots of a security that is set up?
@@ -53,16 +42,7 @@ fn is_in_lots(book: &Book, i: usize, nominal: u64) -> bool
     ensures { result ≡ in_lots (state book.now) i nominal }
 {
     let lot = book::get(book, Table::Lots, i);
-    if lot == 0 {
-        return false;
-    }
-    nominal % lot == 0
-}
-
-fn wide(x: u32) -> u64
-    ensures { result ≡ x }
-{
-    x as u64
+    lot != 0 && nominal % lot == 0
 }
 
 // A nominal of an exposure e that may hold some: nothing, or whole lots with which its giver p stays within the limit. It is added
@@ -79,7 +59,7 @@ fn is_sound_nominal(held: &mut [u32; 2048], book: &Book, p: usize, e: usize, i: 
         return false;
     }
     let at = 64 * p + i;
-    let sum = wide(held[at]) + nominal;
+    let sum = u64::from(held[at]) + nominal;
     if GREATEST_NOMINAL < book::get(book, Table::Accounts, at) + sum {
         return false;
     }

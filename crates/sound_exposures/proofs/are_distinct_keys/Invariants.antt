@@ -1,6 +1,6 @@
 -- `sound_exposures::are_distinct_keys` meets its contract: those below `e` passed and are marked.
 -- Assumes nothing.
-use Prim.Native.Nat.{◌-◌, ◌≤◌}
+use Prim.Native.Nat.{◌≤◌}
 use Rattle.laws.specs.Search.{all}
 use Rattle.laws.proofs.Least.{Rest}
 use Rattle.book.specs.State.{state}

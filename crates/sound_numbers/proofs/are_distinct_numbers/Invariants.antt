@@ -1,6 +1,6 @@
 -- `sound_numbers::are_distinct_numbers` meets its contract: those below `i` passed and are marked.
 -- Assumes nothing.
-use Prim.Native.Nat.{◌-◌, ◌≤◌}
+use Prim.Native.Nat.{◌≤◌}
 use Rattle.laws.specs.Search.{all}
 use Rattle.laws.proofs.Least.{Rest}
 use Rattle.book.specs.State.{state}

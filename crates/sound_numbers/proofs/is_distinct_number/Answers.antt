@@ -1,22 +1,14 @@
--- `sound_numbers::is_distinct_number` meets its contract: those below `j` have other numbers.
+-- `sound_numbers::is_distinct_number` meets its contract: the comparison with each before decides.
 -- Assumes nothing.
-use native.Mathlib.Omega.{arith}
-use Rattle.laws.proofs.Least.{loop_fails, loop_passes, loop_ends}
+use mathlib.Core.Path.{◌∙◌}
+use borrow.Author.Rules.{rules}
+use Rattle.laws.proofs.Ranges.{all_over_range}
 use Rattle.book.specs.State.{state}
-use Rattle.sound_numbers.proofs.Numbers.{no_number, numbers_of_lem}
+use Rattle.rules.specs.ByRow.{differs}
+use Rattle.sound_numbers.proofs.Numbers.{numbers_of_lem}
 use Rattle.sound_numbers.proofs.is_distinct_number.Goals as goal
 
-pub returns-then-get-eq0 : goal.returns-then-get-eq0
-returns-then-get-eq0 c = search no_number
-
-pub loop-j-init : goal.loop-j-init
-loop-j-init c = (omega arith, record { decides = numbers_of_lem (state c.args.book.now) c.args.i c.get.ensures c.if-get-eq0.false })
-
-pub returns-then-not-differ : goal.returns-then-not-differ
-returns-then-not-differ c = search loop_fails
-
-pub loop-j-preserved : goal.loop-j-preserved
-loop-j-preserved c = (omega arith, search loop_passes)
-
-pub returns : goal.returns
-returns c = search loop_ends
+pub returns-else-get-eq0 : goal.returns-else-get-eq0
+returns-else-get-eq0 c =
+    all_over_range (differs (state c.args.book.now) c.args.i) _ _ _ c.all.ensures.ran (λ x y q k. search rules)
+    ∙ numbers_of_lem (state c.args.book.now) c.args.i c.get.ensures c.if-get-eq0.false

@@ -7,7 +7,7 @@ pub returns-then-get-i : goal.returns-then-get-i
 returns-then-get-i c = search later_not_named
 
 pub returns-then-get : goal.returns-then-get
-returns-then-get c = search later_number
+returns-then-get c = search by_cancel
 
-pub returns : goal.returns
-returns c = search by_cancel
+pub returns-else-get : goal.returns-else-get
+returns-else-get c = search later_number

@@ -1,18 +1,10 @@
--- `sound_setup::are_sound_baskets` meets its contract: those below `b` passed.
+-- `sound_setup::are_sound_baskets` meets its contract: the test of each row decides.
 -- Assumes nothing.
-use mathlib.Core.Path.{refl}
-use native.Mathlib.Omega.{arith}
-use Rattle.laws.proofs.Least.{loop_fails, loop_passes, loop_ends}
+use borrow.Author.Rules.{rules}
+use Rattle.laws.proofs.Ranges.{all_over_range}
+use Rattle.book.specs.State.{state}
+use Rattle.rules.specs.ByRow.{sound_basket}
 use Rattle.sound_setup.proofs.are_sound_baskets.Goals as goal
 
-pub loop-b-init : goal.loop-b-init
-loop-b-init c = (omega arith, record { decides = refl })
-
-pub returns-then-not-is_sound_basket : goal.returns-then-not-is_sound_basket
-returns-then-not-is_sound_basket c = search loop_fails
-
-pub loop-b-preserved : goal.loop-b-preserved
-loop-b-preserved c = (omega arith, search loop_passes)
-
 pub returns : goal.returns
-returns c = search loop_ends
+returns c = all_over_range (sound_basket (state c.args.book.now)) _ _ _ c.all.ensures.ran (λ x y q k. search rules)

@@ -1,6 +1,6 @@
 -- `sound_stocks::are_four_sound` meets its contract: the nominals below `i` are added.
 -- Assumes nothing.
-use Prim.Native.Nat.{◌+◌, ◌*◌, ◌-◌, ◌≤◌, ◌<◌}
+use Prim.Native.Nat.{◌+◌, ◌*◌, ◌≤◌, ◌<◌}
 use mathlib.Core.Path.{◌≡◌}
 use Rattle.book.specs.State.{state}
 use Rattle.sound_stocks.specs.Stocks.{Adding}

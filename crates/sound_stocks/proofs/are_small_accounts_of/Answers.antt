@@ -1,22 +1,14 @@
--- `sound_stocks::are_small_accounts_of` meets its contract: those below `i` passed.
+-- `sound_stocks::are_small_accounts_of` meets its contract: the test of each account decides.
 -- Assumes nothing.
-use mathlib.Core.Path.{refl}
-use native.Mathlib.Omega.{arith}
-use Rattle.laws.proofs.Least.{loop_fails, loop_passes, loop_ends}
+use borrow.Author.Rules.{rules}
+use Rattle.laws.proofs.Ranges.{all_over_range}
+use Rattle.book.specs.State.{state}
+use Rattle.sound_stocks.specs.Stocks.{small_account}
 use Rattle.sound_stocks.proofs.Stocks.{account_nothing}
 use Rattle.sound_stocks.proofs.are_small_accounts_of.Goals as goal
 
 pub returns-then-are_rows_empty : goal.returns-then-are_rows_empty
 returns-then-are_rows_empty c = search account_nothing
 
-pub loop-i-init : goal.loop-i-init
-loop-i-init c = (omega arith, record { decides = refl })
-
-pub returns-then-not-is_small_account : goal.returns-then-not-is_small_account
-returns-then-not-is_small_account c = search loop_fails
-
-pub loop-i-preserved : goal.loop-i-preserved
-loop-i-preserved c = (omega arith, search loop_passes)
-
 pub returns : goal.returns
-returns c = search loop_ends
+returns c = all_over_range (small_account (state c.args.book.now) c.args.p) _ _ _ c.all.ensures.ran (λ x y q k. search rules)

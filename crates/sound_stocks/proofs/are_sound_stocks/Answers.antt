@@ -16,10 +16,10 @@ pub is_sound_stock-requires : goal.is_sound_stock-requires
 is_sound_stock-requires c = (search rules, below _ 64 c.loop-e.invariant.1 _ (omega arith), search rules)
 
 pub returns-then-not-is_sound_stock : goal.returns-then-not-is_sound_stock
-returns-then-not-is_sound_stock c = judged_ends _ c.is_sound_stock.ensures c.if-not-is_sound_stock.true-raw
+returns-then-not-is_sound_stock c = search judged_ends
 
 pub loop-e-preserved : goal.loop-e-preserved
-loop-e-preserved c = (omega arith, search rules, judged_passes _ c.is_sound_stock.ensures c.if-not-is_sound_stock.false-raw)
+loop-e-preserved c = (omega arith, search rules, judged_passes _ c.is_sound_stock.ensures (search rules))
 
 pub returns : goal.returns
 returns c = search held_ends

@@ -1,6 +1,6 @@
 -- `sound_stocks::are_sound_stocks` meets its contract: the exposures below `e` are added.
 -- Assumes nothing.
-use Prim.Native.Nat.{◌-◌, ◌≤◌}
+use Prim.Native.Nat.{◌≤◌}
 use mathlib.Core.Bool.{true}
 use mathlib.Core.Path.{◌≡◌}
 use Rattle.laws.specs.Search.{all}

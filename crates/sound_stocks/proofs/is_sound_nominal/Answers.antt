@@ -15,12 +15,12 @@ returns-then-not-is_in_lots c = search nominal_not_whole
 pub overflow_add-sum : goal.overflow_add-sum
 overflow_add-sum c =
     let fits = state_fits c.args.book.now (omega arith) c.fits-book in
-    omega (arith, nominal_small (state c.args.book.now) fits c.requires.0 c.requires.1 c.wide.ensures c.get-nominal.ensures)
+    omega (arith, nominal_small (state c.args.book.now) fits c.requires.0 c.requires.1 c.from.ensures c.get-nominal.ensures)
 
 pub overflow_add-get : goal.overflow_add-get
 overflow_add-get c =
     let fits = state_fits c.args.book.now (omega arith) c.fits-book in
-    omega (arith, nominal_small (state c.args.book.now) fits c.requires.0 c.requires.1 c.wide.ensures c.get-nominal.ensures, c.get.ensures)
+    omega (arith, nominal_small (state c.args.book.now) fits c.requires.0 c.requires.1 c.from.ensures c.get-nominal.ensures, c.get.ensures)
 
 pub returns-then-get-sum-gt-GREATEST_NOMINAL : goal.returns-then-get-sum-gt-GREATEST_NOMINAL
 returns-then-get-sum-gt-GREATEST_NOMINAL c = search nominal_too_much
