@@ -15,6 +15,7 @@ ghost use Rattle.day_exposures.specs.Parts.{amount_closed, is_held, security_bac
 
 use book::Book;
 use book::layout::{EXPOSURE_TABLES, Table};
+use exposure_search::ExposureKey;
 
 // Gives one security of a position back to its owner, where it is held.
 fn give_security(book: &mut Book, owner: usize, e: usize, i: usize)
@@ -75,25 +76,14 @@ fn does_belong(book: &Book, e: usize, i: usize) -> bool
     if book::get(book, Table::Numbers, i) == 0 {
         return false;
     }
-    let kind = book::get(book, Table::RequestKinds, i);
-    if kind == 7 {
-        return book::get(book, Table::BasketsOrExposures, i) == e as u64;
+    match book::get(book, Table::RequestKinds, i) {
+        6 => {
+            book::get(book, Table::Partners, i) != 0
+                && exposure_search::has_key(book, ExposureKey::of_request(book, i), e)
+        }
+        7 => book::get(book, Table::BasketsOrExposures, i) == e as u64,
+        _ => false,
     }
-    if kind != 6 {
-        return false;
-    }
-    let partner = book::get(book, Table::Partners, i);
-    if partner == 0 {
-        return false;
-    }
-    exposure_search::has_key(
-        book,
-        book::get(book, Table::Givers, i),
-        book::get(book, Table::Takers, i),
-        book::get(book, Table::BasketsOrExposures, i),
-        book::get(book, Table::Closings, i),
-        e,
-    )
 }
 
 // Does no row belong to the exposure e?
@@ -101,12 +91,7 @@ fn does_none_belong(book: &Book, e: usize) -> bool
     requires { e < 64 }
     ensures { result ≡ all (is_not_of (state book.now) e) 256 0 }
 {
-    for i in 0..256 {
-        if does_belong(book, e, i) {
-            return false;
-        }
-    }
-    true
+    !(0..256).any(|i| does_belong(book, e, i))
 }
 
 // The slot of the exposure that a row belongs to; any slot for a row that belongs to none, as 1,024 for one that is not in use.
@@ -117,31 +102,21 @@ fn row_slot(book: &Book, i: usize) -> usize
     if book::get(book, Table::Numbers, i) == 0 {
         return 1024;
     }
-    let object = book::get(book, Table::BasketsOrExposures, i);
     if book::get(book, Table::RequestKinds, i) == 7 {
-        if 64 <= object {
+        let exposure = book::get(book, Table::BasketsOrExposures, i);
+        if 64 <= exposure {
             return 1024;
         }
-        return exposure_search::slot_of(book, object as usize);
+        return exposure_search::slot_of(book, exposure as usize);
     }
-    exposure_search::key_slot(
-        book::get(book, Table::Givers, i),
-        book::get(book, Table::Takers, i),
-        object,
-        book::get(book, Table::Closings, i),
-    )
+    ExposureKey::of_request(book, i).slot()
 }
 
 // Is there a used exposure of amount 0? Only time depends on it.
 fn is_any_empty(book: &Book) -> bool {
-    for e in 0..64 {
-        if book::get(book, Table::InUse, e) == 1 {
-            if book::get(book, Table::ExposureAmounts, e) == 0 {
-                return true;
-            }
-        }
-    }
-    false
+    (0..64).any(|e| {
+        book::get(book, Table::InUse, e) == 1 && book::get(book, Table::ExposureAmounts, e) == 0
+    })
 }
 
 // Marks the slots of the exposures that rows belong to. Where no used exposure has amount 0, no mark is read, and all stay set.

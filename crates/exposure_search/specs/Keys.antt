@@ -1,7 +1,7 @@
 -- The key of an exposure: its giver, taker, basket and closing day, and the slot that a key has among 1,024.
 -- Assumes nothing.
 use Rattle.std.specs.Prelude.{Bool, ℕ, ◌+◌, ◌*◌, ◌/◌, ◌%◌}
-use Rattle.book.specs.Layout.{exposure_givers, exposure_takers, exposure_baskets, exposure_closings}
+use Rattle.book.specs.Layout.{givers, takers, baskets_or_exposures, closings, exposure_givers, exposure_takers, exposure_baskets, exposure_closings}
 use Rattle.book.specs.State.{State}
 use Rattle.rules.specs.Requests.{has_key, exposure_with}
 use Rattle.exposure_search.specs.declared.ExposureKey.{ExposureKey}
@@ -9,6 +9,10 @@ use Rattle.exposure_search.specs.declared.ExposureKey.{ExposureKey}
 -- the key in the row e
 abbrev pub key_of : State → ℕ → ExposureKey
 key_of s e = record { giver = s exposure_givers e; taker = s exposure_takers e; basket = s exposure_baskets e; closing = s exposure_closings e }
+
+-- the key of the request row i
+abbrev pub request_key : State → ℕ → ExposureKey
+request_key s i = record { giver = s givers i; taker = s takers i; basket = s baskets_or_exposures i; closing = s closings i }
 
 -- the exposure e is used, with this key
 abbrev pub is_at : State → ExposureKey → ℕ → Bool

@@ -4,7 +4,7 @@
 ghost use Rattle.std.specs.Prelude.{◌≡◌, ◌<◌, ltb};
 ghost use Rattle.laws.specs.Search.{found};
 ghost use Rattle.book.specs.State.{state};
-ghost use Rattle.exposure_search.specs.Keys.{key_of, is_at, exposure_of};
+ghost use Rattle.exposure_search.specs.Keys.{key_of, request_key, is_at, exposure_of};
 ghost use Rattle.exposure_search.specs.Slots.{slot_of_key, slot_of, with_hint, with_hints};
 
 use book::Book;
@@ -30,6 +30,19 @@ impl ExposureKey {
             taker: book::get(book, Table::ExposureTakers, e),
             basket: book::get(book, Table::ExposureBaskets, e),
             closing: book::get(book, Table::ExposureClosings, e),
+        }
+    }
+
+    // The key of the request row i: of a FOP, that of the exposure that its pair belongs to.
+    pub fn of_request(book: &Book, i: usize) -> ExposureKey
+        requires { i < 256 }
+        ensures { result ≡ request_key (state book.now) i }
+    {
+        ExposureKey {
+            giver: book::get(book, Table::Givers, i),
+            taker: book::get(book, Table::Takers, i),
+            basket: book::get(book, Table::BasketsOrExposures, i),
+            closing: book::get(book, Table::Closings, i),
         }
     }
 

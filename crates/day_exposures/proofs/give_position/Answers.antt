@@ -24,11 +24,13 @@ pub give_security-requires : goal.give_security-requires
 give_security-requires c =
     let first = state c.args.book.now in
     let i = c.loop-i.i in
-    let m : i < 64 = omega arith in (omega (arith, c.get-owner.ensures, c.requires.giver),
+    let m : i < 64 = omega arith in (
+      omega (arith, c.get-owner.ensures, c.requires.giver),
       c.requires.below,
       m,
       rw (c.loop-i.invariant.2, account_ahead c.get-owner.result c.args.e first i, position_ahead c.get-owner.result c.args.e first i, c.get-owner.ensures)
-          (c.requires.room i m),)
+          (c.requires.room i m),
+    )
 
 pub loop-i-preserved : goal.loop-i-preserved
 loop-i-preserved c =
