@@ -26,10 +26,11 @@ pub goes_on : {left₀ left left' holds₀ holds holds' : Option (List ℕ)} {b 
     → Piece left left' holds holds' b held place b' held' place'
     → Between left₀ left' holds₀ holds' b' held' place'
 goes_on {left₀} {left} {left'} {holds₀} {holds} {holds'} {held = held} r p =
-    let s = p.serves in
+    let h = p.served in
+    let s = h.serves in
     let on = reached_on r.reached p.got (held ++ p.got) refl in
-    let reached = rw (← s.books, ← s.takes, ← s.places, ← p.rest) at on in
-    record { input = _; written = _; reached = reached; consumed = Consumes-trans left₀ left left' _ _ r.consumed p.consumed; appended = Appends-trans holds₀ holds holds' _ _ r.appended (rw s.texts at p.appended); served = p.none }
+    let reached = rw (← s.books, ← s.takes, ← s.places, ← h.rest) at on in
+    record { input = _; written = _; reached = reached; consumed = Consumes-trans left₀ left left' _ _ r.consumed p.consumed; appended = Appends-trans holds₀ holds holds' _ _ r.appended (rw s.texts at p.appended); served = h.none }
 
 -- a run that read all that its reader had, or all before an unknown record, has written the text of the whole input
 pub ends : (left₀ left holds₀ holds holds' : Option (List ℕ)) (b rest : List ℕ) (place : ℕ)

@@ -12,15 +12,19 @@ pub record Gained (left₀ left : Option (List ℕ)) (held₀ held : List ℕ) :
   pub consumed : Consumes left₀ left got
   pub behind : held ≡ held₀ ++ got
 
--- a piece: what was held with what the reader gave behind it is served, the writer took its lines, and no whole record is held
+-- what is held is served: its whole records are taken from it, and no whole record is left
+pub record ServesHeld (book₀ held₀ : List ℕ) (place₀ : ℕ) (book lines held : List ℕ) (place : ℕ) : Type 0 where
+  pub taken : ℕ
+  pub serves : Serves book₀ [] place₀ held₀ book lines place taken
+  pub rest : held ≡ drop taken held₀
+  pub none : 0 ≡ first_record held
+
+-- a piece: what was held with what the reader gave behind it is served, and the writer took its lines
 pub record Piece (left₀ left holds₀ holds : Option (List ℕ)) (book₀ held₀ : List ℕ) (place₀ : ℕ) (book held : List ℕ) (place : ℕ) : Type 0 where
   pub got : List ℕ
   pub lines : List ℕ
-  pub taken : ℕ
   pub consumed : Consumes left₀ left got
-  pub serves : Serves book₀ [] place₀ (held₀ ++ got) book lines place taken
-  pub rest : held ≡ drop taken (held₀ ++ got)
-  pub none : 0 ≡ first_record held
+  pub served : ServesHeld book₀ (held₀ ++ got) place₀ book lines held place
   pub appended : Appends holds₀ holds lines
 
 -- between two pieces: an input that the reader gave, and a text that the writer took, which with what is held, and whatever comes behind, are

@@ -10,7 +10,7 @@ ghost use Rattle.std.specs.Prelude.{◌≡◌, ◌+◌, ◌≤◌, ◌<◌, [], 
 ghost use Rattle.std.specs.Io.KnownBytes.{Appends, IsAtEnd};
 ghost use Rattle.line_text.specs.Text.{last_line};
 ghost use Rattle.lines.specs.Program.{zero_book, program_text};
-ghost use Rattle.desk.specs.Streams.{Piece, Between, Over};
+ghost use Rattle.desk.specs.Streams.{ServesHeld, Piece, Between, Over};
 
 mod input;
 
@@ -69,6 +69,23 @@ impl Desk {
             .map_err(|_| Failure::Write)
     }
 
+    // Serves the whole records that are held: makes their calls and puts their lines, in place of those that were there.
+    fn serve_held(&mut self)
+        requires { self.old.place + 512 < 18446744073709551616 }
+        ensures served { ServesHeld self.old.book self.old.input self.old.place self.new.book self.new.lines.items self.new.input self.new.place }
+        ensures place_bound { self.new.place ≤ self.old.place + 512 }
+    {
+        self.lines.clear();
+        let p = lines::serve(
+            &mut self.book,
+            self.input.held(),
+            &mut self.lines,
+            self.place,
+        );
+        self.input.consume(p.taken);
+        self.place = p.place;
+    }
+
     // Reads a piece behind what is left of the last one, serves it and writes its lines; answers how many bytes were read.
     fn serve_piece<R: Read, W: Write>(
         &mut self,
@@ -81,15 +98,7 @@ impl Desk {
         ensures end { IfOk result (λ n. n ≡ 0 → length self.old.input < 512 → IsAtEnd (R.remaining reader.new)) }
     {
         let count = self.input.read_more(reader).map_err(|_| Failure::Read)?;
-        self.lines.clear();
-        let p = lines::serve(
-            &mut self.book,
-            self.input.held(),
-            &mut self.lines,
-            self.place,
-        );
-        self.input.consume(p.taken);
-        self.place = p.place;
+        self.serve_held();
         self.write_lines(writer)?;
         Ok(count)
     }

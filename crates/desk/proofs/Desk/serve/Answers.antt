@@ -15,7 +15,7 @@ loop-turn-preserved g c =
     let l = c.loop-turn in
     let piece = c.in_ok-count.ensures.piece in
     let more : is_over c.in_ok-count.count c.serve_piece.new.self.input ≡ false = cc in
-    (omega (arith, c.serve_piece.ensures.place_bound), short c.serve_piece.new.self.input c.in_ok-count.count more piece.none, goes_on l.invariant.2 piece)
+    (omega (arith, c.serve_piece.ensures.place_bound), short c.serve_piece.new.self.input c.in_ok-count.count more piece.served.none, goes_on l.invariant.2 piece)
 
 pub returns-then-is_over : goal.returns-then-is_over
 returns-then-is_over g c =
