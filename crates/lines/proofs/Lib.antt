@@ -1,5 +1,3 @@
-pub mod Answers
 pub mod Cuts
-pub mod Moving
 pub mod Program
 pub mod Serving

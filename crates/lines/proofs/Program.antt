@@ -2,22 +2,20 @@
 -- what comes behind, is the text of the whole.
 -- Assumes nothing.
 use mathlib.Core.Path.{◌≡◌, refl, sym, ap, ◌∙◌}
-use mathlib.Core.Bool.{Bool, true, false, true≢false, false≢true, not}
+use mathlib.Core.Bool.{Bool, true, false, true≢false, not}
 use mathlib.Core.List.{List, [], ◌∷◌, ◌++◌, append-nil, append_assoc}
 use mathlib.Core.Logic.{⊎_elim}
-use Prim.Native.Nat.{ℕ, zero, suc, ◌+◌, ◌-◌, ◌≤◌, ◌<◌}
+use Prim.Native.Nat.{ℕ, zero, suc, ◌+◌, ◌≤◌, ◌<◌}
 use native.Mathlib.Omega.{arith}
 use lib.Dec.{leb, ltb}
-use lib.ListN.{length, get_or, take, drop, length-append, length-drop, take-append-drop, replicate, get_or-append}
-use lib.Seq.{take-append-le, drop-append-le, drop-drop, take-take}
+use lib.ListN.{length, get_or, take, drop, length-append, length-drop, replicate, get_or-append}
+use lib.Seq.{take-append-le, drop-append-le, drop-drop}
 use borrow.Author.Tests.{ltb-true, ltb-false, lt-ltb, le-ltb, le-leb, leb-true}
 use Rattle.laws.proofs.Cases.{either}
 use Rattle.rules.specs.Call.{call_book}
 use Rattle.line_text.specs.Text.{last_line}
-use Rattle.line_text.specs.Buffer.{with_text}
-use Rattle.line_text.proofs.Texts.{text_none}
 use Rattle.lines.specs.Program.{record_length, first_record, front, behind, front_line, text_within, text_of, zero_book, program_text}
-use Rattle.lines.specs.Pieces.{served_within, served_all, Serves, is_awaited, is_over, is_open, Reached, Ran, end_text}
+use Rattle.lines.specs.Pieces.{served_within, served_all, is_awaited, is_over, Reached}
 
 -- a whole record stays whole, whatever comes behind it
 whole_stays : (piece later : List ℕ) → 0 < first_record piece → (first_record (piece ++ later) ≡ first_record piece) × (first_record piece ≤ length piece)
@@ -103,10 +101,6 @@ not-true : (t : Bool) → not t ≡ true → t ≡ false
 not-true true h = sym h
 not-true false h = refl
 
-not-false : (t : Bool) → not t ≡ false → t ≡ true
-not-false true h = refl
-not-false false h = sym h
-
 pub reached_begins : Reached [] [] zero_book [] 1
 unfolding program_text
 reached_begins = record { whole = λ later. refl }
@@ -127,74 +121,13 @@ module _ {input written b held : List ℕ} {place : ℕ} (r : Reached input writ
       }
 
   -- the last line is all that is missing where the input is at its end or goes on with an unknown record
-  pub reached_ends : (failed : Bool) (count : ℕ) → 0 ≡ first_record held → is_over failed count held ≡ true → (later : List ℕ) → (count ≡ 0 → later ≡ []) → written ++ last_line place held ≡ program_text (input ++ later)
+  pub reached_ends : (count : ℕ) → 0 ≡ first_record held → is_over count held ≡ true → (later : List ℕ) → (count ≡ 0 → later ≡ []) → written ++ last_line place held ≡ program_text (input ++ later)
   unfolding is_over
-  reached_ends true count none h later over = absurd (false≢true h)
-  reached_ends false zero none h later over =
+  reached_ends zero none h later over =
       ap (λ (z : List ℕ). written ++ z) (sym (text_ends b held place none) ∙ ap (text_of b place) (sym (append-nil held) ∙ ap (λ (z : List ℕ). held ++ z) (sym (over refl))))
       ∙ r.whole later
-  reached_ends false (suc n) none h later over = ap (λ (z : List ℕ). written ++ z) (sym (unknown_ends b held place later (not-true (is_awaited held) h))) ∙ r.whole later
+  reached_ends (suc n) none h later over = ap (λ (z : List ℕ). written ++ z) (sym (unknown_ends b held place later (not-true (is_awaited held) h))) ∙ r.whole later
 
 pub zero_bytes : replicate 49152 0 ≡ zero_book
 unfolding zero_book
 zero_bytes = refl
-
-pub ran_begins : (failed : Bool) (count : ℕ) → Ran zero_book [] 1 failed count
-unfolding first_record
-ran_begins failed count = record { input = []; written = []; reached = reached_begins; ended = reached_ends reached_begins failed count refl }
-
--- a turn of the program: what was held of a piece stands in front of the next one, whose whole records are served
-pub ran_on : {b l₀ b' l' : List ℕ} {place place' taken' waiting' : ℕ} {failed : Bool} {count : ℕ} (input input' : List ℕ) (end taken end' : ℕ) (failed' : Bool) (count' : ℕ)
-    → Ran b (drop taken (take end input)) place failed count
-    → take (end - taken) input' ≡ drop taken (take end input)
-    → Serves b l₀ place (take end' input') b' l' place' taken' waiting'
-    → 0 ≡ first_record (drop taken' (take end' input'))
-    → end' ≡ end - taken + count'
-    → Ran b' (drop taken' (take end' input')) place' failed' count'
-ran_on input input' end taken end' failed' count' r kept s none more =
-    let piece = take end' input' in
-    let front_kept = take-take (end - taken) end' input' (omega arith) ∙ kept in
-    let on = reached_on r.reached (drop (end - taken) piece) piece (sym (take-append-drop (end - taken) piece) ∙ ap (λ (z : List ℕ). z ++ drop (end - taken) piece) front_kept) in
-    let reached = rw (← s.books, ← s.takes, ← s.places) at on in
-    record { input = _; written = _; reached = reached; ended = reached_ends reached failed' count' none }
-
--- is the next piece to be read, by the program's tests
-pub no_reads : (reads : ℕ) (w f o : Bool) → reads ≡ 0 → false ≡ is_open reads w f o
-unfolding is_open
-no_reads reads true false true h = refl
-no_reads reads true false false h = rw h
-no_reads reads true true o h = refl
-no_reads reads false f o h = refl
-
-pub not_written : (reads : ℕ) (w f o : Bool) → not w ≡ true → false ≡ is_open reads w f o
-unfolding is_open
-not_written reads w f o h = rw (not-true w h)
-
-pub has_failed : (reads : ℕ) (w f o : Bool) → not w ≡ false → f ≡ true → false ≡ is_open reads w f o
-unfolding is_open
-has_failed reads w f o h g = rw (not-false w h, g)
-
-pub more_open : (reads : ℕ) (w f o : Bool) {t : Bool} → (reads ≡ 0 → ⊥) → not w ≡ false → f ≡ false → t ≡ o → not t ≡ is_open reads w f o
-unfolding is_open
-more_open reads w f true n h g e = rw (not-false w h, g, e)
-more_open reads w f false n h g e = rw (not-false w h, g, e, lt-ltb 0 reads (omega arith))
-
-pub closed : (o : Bool) {t : Bool} → t ≡ o → not t ≡ true → false ≡ o
-closed o e h = sym (not-true _ h) ∙ e
-
-pub open_reads : (reads : ℕ) (w f o : Bool) {t : Bool} → t ≡ is_open reads w f o → not t ≡ false → 0 < reads
-open_reads zero w f o e h = absurd (true≢false (sym (not-false _ h) ∙ e ∙ sym (no_reads zero w f o refl)))
-open_reads (suc n) w f o e h = omega arith
-
--- what is put at the end, by the program's tests: nothing where a write failed or more is to be read, else the last line
-pub end_unwritten : (l : List ℕ) (w o : Bool) (place : ℕ) (rest : List ℕ) → not w ≡ true → l ≡ with_text l 0 (end_text w o place rest)
-unfolding end_text
-end_unwritten l w o place rest h = rw (not-true w h) (text_none l 0)
-
-pub end_unread : (l : List ℕ) (w o : Bool) (place : ℕ) (rest : List ℕ) {t : Bool} → not w ≡ false → t ≡ o → not t ≡ true → l ≡ with_text l 0 (end_text w o place rest)
-unfolding end_text
-end_unread l w o place rest h e g = rw (not-false w h, sym e ∙ not-true _ g) (text_none l 0)
-
-pub end_last : (l m : List ℕ) (w o : Bool) (place : ℕ) (rest part : List ℕ) {t : Bool} → not w ≡ false → t ≡ o → not t ≡ false → m ≡ with_text l 0 (last_line place part) → part ≡ rest → m ≡ with_text l 0 (end_text w o place rest)
-unfolding end_text
-end_last l m w o place rest part h e g p f = rw (not-false w h, sym e ∙ not-false _ g, ← f) p

@@ -5,13 +5,11 @@ use mathlib.Core.List.{List, [], ◌++◌, append-nil, append_assoc}
 use Prim.Native.Nat.{ℕ, zero, suc, ◌+◌, ◌*◌, ◌-◌, ◌≤◌, ◌<◌}
 use native.Mathlib.Nat.{add-zero, zero-add, add_assoc}
 use native.Mathlib.Omega.{arith}
-use lib.ListN.{length, get_or, take, drop, length-append, length-drop}
-use lib.Seq.{take_all, length-take-le, get_or-take, drop-drop}
+use lib.ListN.{length, get_or, take, drop, length-drop}
+use lib.Seq.{take_all, get_or-take, drop-drop}
 use borrow.Author.Tests.{lt-ltb, le-ltb}
 use Rattle.rules.specs.Call.{call_answer, call_book}
 use Rattle.line_text.specs.Text.{line_of}
-use Rattle.line_text.specs.Buffer.{with_text}
-use Rattle.line_text.proofs.Texts.{text_next, text_none, text_length}
 use Rattle.lines.specs.Program.{first_record, front, behind, front_line}
 use Rattle.lines.specs.Pieces.{Served, served, before, served_within, served_all, Serves}
 
@@ -30,18 +28,16 @@ before_before : (s t : List ℕ) (m n : ℕ) (r : Served) → before s m (before
 before_before s t m n r = rw (append_assoc s t r.text, add_assoc m n r.taken)
 
 -- what holds after some records: the text so far is put, and what the whole piece leaves is what the rest leaves behind it
-pub record Walk (piece b₀ l₀ : List ℕ) (place₀ : ℕ) (b l : List ℕ) (place taken waiting : ℕ) : Type 0 where
+pub record Walk (piece b₀ l₀ : List ℕ) (place₀ : ℕ) (b l : List ℕ) (place taken : ℕ) : Type 0 where
   pub begun : place₀ ≤ place
   pub counted : place ≤ place₀ + taken
   pub inside : taken ≤ length piece
-  pub fitting : waiting ≤ 126 * taken
-  pub sized : length l ≡ length l₀
+  pub fitting : length l ≤ length l₀ + 126 * taken
   pub text : List ℕ
-  pub long : waiting ≡ length text
-  pub stands : l ≡ with_text l₀ 0 text
+  pub stands : l ≡ l₀ ++ text
   pub whole : served_all b₀ place₀ piece ≡ before text taken (served_within (length piece + place₀ - place) b place (drop taken piece))
 
-pub walk_begins : (piece b l : List ℕ) (place : ℕ) → Walk piece b l place b l place 0 0
+pub walk_begins : (piece b l : List ℕ) (place : ℕ) → Walk piece b l place b l place 0
 walk_begins piece b l place =
     let all : length piece + place - place ≡ length piece = omega arith in
     record {
@@ -49,26 +45,24 @@ walk_begins piece b l place =
       counted = omega arith;
       inside = omega arith;
       fitting = omega arith;
-      sized = refl;
       text = [];
-      long = refl;
-      stands = text_none l 0;
+      stands = sym (append-nil l);
       whole = rw (all, zero-add (served_within (length piece) b place piece).taken);
     }
 
-module _ {piece b₀ l₀ : List ℕ} {place₀ : ℕ} {b l : List ℕ} {place taken waiting : ℕ} (w : Walk piece b₀ l₀ place₀ b l place taken waiting) (room : 126 * length piece ≤ length l₀) where
+module _ {piece b₀ l₀ : List ℕ} {place₀ : ℕ} {b l : List ℕ} {place taken : ℕ} (w : Walk piece b₀ l₀ place₀ b l place taken) where
   -- one record more, and its line
-  walk_goes_on : 0 < first_record (drop taken piece)
+  walk_goes_on : (l' : List ℕ) → 0 < first_record (drop taken piece)
       → taken + first_record (drop taken piece) ≤ length piece
-      → length (front_line b place (drop taken piece)) ≤ 126
-      → Walk piece b₀ l₀ place₀ (call_book b (front (drop taken piece))) (with_text l waiting (front_line b place (drop taken piece))) (place + 1) (taken + first_record (drop taken piece)) (waiting + length (front_line b place (drop taken piece)))
-  walk_goes_on more inside short =
+      → length l' ≤ length l + 126
+      → l' ≡ l ++ front_line b place (drop taken piece)
+      → Walk piece b₀ l₀ place₀ (call_book b (front (drop taken piece))) l' (place + 1) (taken + first_record (drop taken piece))
+  walk_goes_on l' more inside short put =
       let rest = drop taken piece in
       let n = first_record rest in
       let line = front_line b place rest in
       let begun = w.begun in
       let counted = w.counted in
-      let sized = w.sized in
       let fitting = w.fitting in
       let left = length piece + place₀ - (place + 1) in
       let one_more : length piece + place₀ - place ≡ suc left = omega arith in
@@ -78,13 +72,8 @@ module _ {piece b₀ l₀ : List ℕ} {place₀ : ℕ} {b l : List ℕ} {place t
         counted = omega arith;
         inside = inside;
         fitting = omega arith;
-        sized = text_length l line waiting (omega arith) ∙ w.sized;
         text = w.text ++ line;
-        long = ap (λ (k : ℕ). k + length line) w.long ∙ sym (length-append w.text line);
-        stands =
-            ap (λ (z : List ℕ). with_text z waiting line) w.stands
-            ∙ ap (λ (k : ℕ). with_text (with_text l₀ 0 w.text) k line) (w.long ∙ sym (zero-add (length w.text)))
-            ∙ text_next l₀ w.text line 0 (omega (arith, w.long));
+        stands = put ∙ ap (λ (z : List ℕ). z ++ line) w.stands ∙ append_assoc l₀ w.text line;
         whole =
             w.whole
             ∙ ap (before w.text taken) step
@@ -93,41 +82,33 @@ module _ {piece b₀ l₀ : List ℕ} {place₀ : ℕ} {b l : List ℕ} {place t
       }
 
   -- the same, of the record's bytes and of what the function that serves one left
-  pub walk_on : (n : ℕ) (bytes b' l' : List ℕ) (place' taken' waiting' : ℕ)
+  pub walk_on : (n : ℕ) (bytes b' l' : List ℕ)
       → n ≡ first_record (drop taken piece)
-      → (n ≡ 0 → ⊥)
+      → 0 < n
       → n ≤ length (drop taken piece)
       → bytes ≡ take n (drop taken piece)
-      → place' ≡ place + 1
-      → taken' ≡ taken + length bytes
-      → waiting' ≤ waiting + 126
       → b' ≡ call_book b bytes
-      → waiting' ≡ waiting + length (line_of place (get_or bytes 0 0) (call_answer b bytes))
-      → l' ≡ with_text l waiting (line_of place (get_or bytes 0 0) (call_answer b bytes))
-      → Walk piece b₀ l₀ place₀ b' l' place' taken' waiting'
-  walk_on n bytes b' l' place' taken' waiting' first some within cut on count short call long text =
+      → l' ≡ l ++ line_of place (get_or bytes 0 0) (call_answer b bytes)
+      → length l' ≤ length l + 126
+      → Walk piece b₀ l₀ place₀ b' l' (place + 1) (taken + n)
+  walk_on n bytes b' l' first some within cut call put short =
       let rest = drop taken piece in
       let same : bytes ≡ front rest = cut ∙ ap (λ (k : ℕ). take k rest) first in
       let kind : get_or bytes 0 0 ≡ get_or rest 0 0 = ap (λ (z : List ℕ). get_or z 0 0) cut ∙ get_or-take n rest 0 0 (omega arith) in
-      let size : length bytes ≡ n = ap length cut ∙ length-take-le n rest within in
       let line : line_of place (get_or bytes 0 0) (call_answer b bytes) ≡ front_line b place rest = ap₂ (λ (k : ℕ) (z : List ℕ). line_of place k (call_answer b z)) kind same in
       let book-is : b' ≡ call_book b (front rest) = call ∙ ap (call_book b) same in
-      let lines_are : l' ≡ with_text l waiting (front_line b place rest) = text ∙ ap (with_text l waiting) line in
-      let taken_is : taken' ≡ taken + first_record rest = count ∙ ap (λ (k : ℕ). taken + k) (size ∙ first) in
-      let waiting-is : waiting' ≡ waiting + length (front_line b place rest) = long ∙ ap (λ (z : List ℕ). waiting + length z) line in
       let inside = w.inside in
-      rw (book-is, lines_are, on, taken_is, waiting-is)
-      (walk_goes_on (omega arith) (omega (arith, length-drop taken piece)) (omega arith))
+      rw (book-is, first)
+      (walk_goes_on l' (omega arith) (omega (arith, length-drop taken piece)) short (put ∙ ap (λ (z : List ℕ). l ++ z) line))
 
   -- where no whole record stands at the front, what is done is all
-  pub walk_ends : 0 ≡ first_record (drop taken piece) → Serves b₀ l₀ place₀ piece b l place taken waiting
+  pub walk_ends : 0 ≡ first_record (drop taken piece) → Serves b₀ l₀ place₀ piece b l place taken
   walk_ends none =
       let last = no_more (length piece + place₀ - place) b (drop taken piece) place none in
       let done : served_all b₀ place₀ piece ≡ served b w.text taken place = w.whole ∙ ap (before w.text taken) last ∙ rw (append-nil w.text, add-zero taken) in
       record {
         books = sym (ap (λ (s : Served). s.book) done);
-        texts = w.stands ∙ sym (ap (λ (s : Served). with_text l₀ 0 s.text) done);
-        waits = w.long ∙ sym (ap (λ (s : Served). length s.text) done);
+        texts = w.stands ∙ sym (ap (λ (s : Served). l₀ ++ s.text) done);
         takes = sym (ap (λ (s : Served). s.taken) done);
         places = sym (ap (λ (s : Served). s.place) done);
       }

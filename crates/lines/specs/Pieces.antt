@@ -1,8 +1,6 @@
 -- The input served piece by piece, as it is read: what code and proofs need to say that the text is `program_text` of the whole.
 -- Assumes nothing.
-use Rattle.std.specs.Prelude.{◌≡◌, Bool, true, false, not, ◌&&◌, cond, List, [], ◌∷◌, ◌++◌, ℕ, zero, suc, ◌+◌, ltb, length}
-use Rattle.line_text.specs.Buffer.{with_text}
-use Rattle.line_text.specs.Text.{last_line}
+use Rattle.std.specs.Prelude.{◌≡◌, Bool, true, not, cond, List, [], ◌∷◌, ◌++◌, ℕ, zero, suc, ◌+◌, ltb, length}
 use Rattle.rules.specs.Call.{call_book}
 use Rattle.lines.specs.Program.{record_length, first_record, front, behind, front_line, text_of, program_text}
 
@@ -32,11 +30,10 @@ served_within (suc n) book place piece =
 abbrev pub served_all : List ℕ → ℕ → List ℕ → Served
 served_all book place piece = served_within (length piece) book place piece
 
--- what a function that serves a piece has to leave: the book, the lines at the front of a buffer, and three numbers
-pub record Serves (book₀ lines₀ : List ℕ) (place₀ : ℕ) (piece book lines : List ℕ) (place taken waiting : ℕ) : Type 0 where
+-- what a function that serves a piece has to leave: the book, the lines behind those that were there, and two numbers
+pub record Serves (book₀ lines₀ : List ℕ) (place₀ : ℕ) (piece book lines : List ℕ) (place taken : ℕ) : Type 0 where
   pub books : book ≡ (served_all book₀ place₀ piece).book
-  pub texts : lines ≡ with_text lines₀ 0 (served_all book₀ place₀ piece).text
-  pub waits : waiting ≡ length (served_all book₀ place₀ piece).text
+  pub texts : lines ≡ lines₀ ++ (served_all book₀ place₀ piece).text
   pub takes : taken ≡ (served_all book₀ place₀ piece).taken
   pub places : place ≡ (served_all book₀ place₀ piece).place
 
@@ -45,30 +42,13 @@ unfoldable pub is_awaited : List ℕ → Bool
 is_awaited [] = true
 is_awaited (k ∷ b) = ltb 0 (record_length k)
 
--- Is nothing to be read any more, by a read that failed or gave some bytes, and by what is then left of the input? So it is where the
--- read gave none, and where an unknown record stands at the front; a read that failed tells nothing.
-unfoldable pub is_over : Bool → ℕ → List ℕ → Bool
-is_over true count rest = false
-is_over false zero rest = true
-is_over false (suc n) rest = not (is_awaited rest)
-
--- Is the next piece to be read? So it is where all was written, the last read did not fail, the input is not over, and reads are left.
-unfoldable pub is_open : ℕ → Bool → Bool → Bool → Bool
-is_open reads written failed over = written && not failed && not over && ltb 0 reads
+-- Is nothing to be read any more, by how many bytes a read gave, and by what is then left of the input? So it is where the read gave none,
+-- and where an unknown record stands at the front.
+unfoldable pub is_over : ℕ → List ℕ → Bool
+is_over zero rest = true
+is_over (suc n) rest = not (is_awaited rest)
 
 -- What holds between two reads, of all that was read and all that was handed to be written: with the text of what is held and of what is
 -- still to come, whatever that is, it is the text of the whole input.
 pub record Reached (input written book held : List ℕ) (place : ℕ) : Type 0 where
   pub whole : (later : List ℕ) → written ++ text_of book place (held ++ later) ≡ program_text (input ++ later)
-
--- That there are such, and that the last line is all that is missing where nothing is to be read any more: nothing is still to come
--- where the read gave none, and what comes behind an unknown record does not matter.
-pub record Ran (book held : List ℕ) (place : ℕ) (failed : Bool) (count : ℕ) : Type 0 where
-  pub input : List ℕ
-  pub written : List ℕ
-  pub reached : Reached input written book held place
-  pub ended : is_over failed count held ≡ true → (later : List ℕ) → (count ≡ 0 → later ≡ []) → written ++ last_line place held ≡ program_text (input ++ later)
-
--- what is put at the end: the last line where all was written and nothing is to be read any more, else nothing
-unfoldable pub end_text : Bool → Bool → ℕ → List ℕ → List ℕ
-end_text written over place rest = cond (written && over) (last_line place rest) []

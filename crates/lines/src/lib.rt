@@ -1,61 +1,54 @@
-// The program's lines (document 01), with nothing of standard input or output: the input cut into records, each handed to the
-// engine with one book, and the text of a line for each.
+// The program's lines, with nothing of standard input or output: the input cut into records, each handed to the engine with one book,
+// and the text of a line for each.
 #![tactic(auto)]
 
-ghost use Rattle.std.specs.Prelude.{◌≡◌, ◌+◌, ◌*◌, ◌≤◌, ◌<◌, pos, length, get_or, take, drop};
+ghost use Rattle.std.specs.Prelude.{◌≡◌, ◌+◌, ◌*◌, ◌≤◌, ◌<◌, ◌++◌, pos, length, get_or, take, drop, IfSome, IfNone};
 ghost use Rattle.std.specs.Int.Signed.{lt_z};
 ghost use Rattle.rules.specs.Call.{call_answer, call_book};
 ghost use Rattle.lines.specs.Program.{record_length, first_record};
 ghost use Rattle.lines.specs.Pieces.{Serves, is_awaited, is_over};
 ghost use Rattle.line_text.specs.Text.{line_of};
-ghost use Rattle.line_text.specs.Buffer.{with_text};
 
-// How far a piece of the input is served: the place of the next line, the bytes of the piece whose calls are made, and the bytes
-// of lines that are put.
+use arrayvec::ArrayVec;
+
+// How far a piece of the input is served: the place of the next line, and the bytes of the piece whose calls are made.
 #[derive(Clone, Copy)]
 pub struct Progress {
     pub place: u64,
     pub taken: usize,
-    pub waiting: usize,
 }
 
-fn wide(x: u8) -> usize
-    ensures { result ≡ x }
+// The bytes of a record of this kind; none where there is no such kind.
+fn length_of(kind: u8) -> Option<usize>
+    ensures some { IfSome result (λ n. (n ≡ record_length kind) × (0 < n)) }
+    ensures none { IfNone result (0 ≡ record_length kind) }
 {
-    x as usize
-}
-
-// The bytes of a record of this kind; 0 where document 01 has no such kind.
-fn length_of(kind: u8) -> usize
-    ensures { result ≡ record_length kind }
-{
-    let k = wide(kind);
+    let k = usize::from(kind);
     if k < record_kinds::KINDS {
-        record_kinds::length_of(k)
+        Some(record_kinds::length_of(k))
     } else {
-        0
+        None
     }
 }
 
-// The bytes of the first record; 0 where there is none, or it is cut or unknown.
-fn first_record(bytes: &[u8]) -> usize
-    ensures { (result ≡ first_record bytes.now) × (result ≤ length bytes.now) }
+// The bytes of the first record; none where there is none, or it is cut or unknown.
+fn first_record(bytes: &[u8]) -> Option<usize>
+    ensures some { IfSome result (λ n. (n ≡ first_record bytes.now) × (0 < n) × (n ≤ length bytes.now)) }
+    ensures none { IfNone result (0 ≡ first_record bytes.now) }
 {
-    if bytes.len() == 0 {
-        return 0;
-    }
-    let n = length_of(bytes[0]);
-    if n <= bytes.len() { n } else { 0 }
+    let kind = bytes.first()?;
+    let n = length_of(*kind)?;
+    (n <= bytes.len()).then_some(n)
 }
 
 // May more bytes turn these into a record?
 fn is_awaited(bytes: &[u8]) -> bool
     ensures { result ≡ is_awaited bytes.now }
 {
-    if bytes.len() == 0 {
-        return true;
+    match bytes.first() {
+        Some(kind) => length_of(*kind).is_some(),
+        None => true,
     }
-    length_of(bytes[0]) > 0
 }
 
 // Did a read or a write fail, by what it answered?
@@ -65,60 +58,50 @@ pub fn is_failure(got: isize) -> bool
     got < 0
 }
 
-// Is nothing to be read any more, after a read that failed or gave `count` bytes, with what is left behind the whole records?
-pub fn is_over(failed: bool, count: usize, rest: &[u8]) -> bool
-    ensures { result ≡ is_over failed count rest.now }
+// Is nothing to be read any more, after a read that gave `count` bytes, with what is left behind the whole records?
+pub fn is_over(count: usize, rest: &[u8]) -> bool
+    ensures { result ≡ is_over count rest.now }
 {
-    if failed {
-        return false;
-    }
-    if count == 0 {
-        return true;
-    }
-    !is_awaited(rest)
+    count == 0 || !is_awaited(rest)
 }
 
 // Makes the call of one record and puts its line.
-fn serve_record(book: &mut [u8], bytes: &[u8], lines: &mut [u8], p: Progress) -> Progress
-    requires { (0 < length bytes.now) × (p.taken + length bytes.now < 18446744073709551616) × (p.place < 18446744073709551615) × (p.waiting + 126 ≤ length lines.old) }
-    ensures place_value { (result.place ≡ p.place + 1) × (result.taken ≡ p.taken + length bytes.now) × (result.waiting ≤ p.waiting + 126) }
+fn serve_record<const CAP: usize>(
+    book: &mut [u8],
+    bytes: &[u8],
+    lines: &mut ArrayVec<u8, CAP>,
+    place: u64,
+)
+    requires { (0 < length bytes.now) × (length lines.old.items + 126 ≤ CAP) }
     ensures book_after { book.new ≡ call_book book.old bytes.now }
-    ensures waiting_value { result.waiting ≡ p.waiting + length (line_of p.place (get_or bytes.now 0 0) (call_answer book.old bytes.now)) }
-    ensures lines_after { lines.new ≡ with_text lines.old p.waiting (line_of p.place (get_or bytes.now 0 0) (call_answer book.old bytes.now)) }
+    ensures lines_after { lines.new.items ≡ lines.old.items ++ line_of place (get_or bytes.now 0 0) (call_answer book.old bytes.now) }
+    ensures length_bound { length lines.new.items ≤ length lines.old.items + 126 }
 {
     let mut answer = [0u64; 4];
     engine::engine_call(book, bytes, &mut answer);
-    let place = p.place + 1;
-    let taken = p.taken + bytes.len();
-    let waiting = line_text::put_line(lines, p.waiting, p.place, bytes[0], &answer);
-    Progress {
-        place,
-        taken,
-        waiting,
-    }
+    line_text::put_line(lines, place, bytes[0], &answer);
 }
 
 // Serves the whole records at the front of a piece. A record has a byte or more, and a line at most 126: six numbers of up to 20
 // digits, with a byte after each.
-pub fn serve(book: &mut [u8], piece: &[u8], lines: &mut [u8], place: u64) -> Progress
-    requires { (place + length piece.now < 18446744073709551616) × (126 * length piece.now ≤ length lines.old) }
-    ensures serves { Serves book.old lines.old place piece.now book.new lines.new result.place result.taken result.waiting }
-    ensures value { (0 ≡ first_record (drop result.taken piece.now)) × (result.taken ≤ length piece.now) × (result.place ≤ place + result.taken) × (result.waiting ≤ length lines.old) }
+pub fn serve<const CAP: usize>(
+    book: &mut [u8],
+    piece: &[u8],
+    lines: &mut ArrayVec<u8, CAP>,
+    place: u64,
+) -> Progress
+    requires { (place + length piece.now < 18446744073709551616) × (length lines.old.items + 126 * length piece.now ≤ CAP) }
+    ensures serves { Serves book.old lines.old.items place piece.now book.new lines.new.items result.place result.taken }
+    ensures value { (0 ≡ first_record (drop result.taken piece.now)) × (result.taken ≤ length piece.now) × (result.place ≤ place + result.taken) × (length lines.new.items ≤ length lines.old.items + 126 * result.taken) }
 {
-    let mut p = Progress {
-        place,
-        taken: 0,
-        waiting: 0,
-    };
-    loop {
-        let at = p.taken;
-        let n = first_record(&piece[at..]);
-        if n == 0 {
-            return p;
-        }
-        let end = at + n;
-        p = serve_record(book, &piece[at..end], lines, p);
+    let mut p = Progress { place, taken: 0 };
+    while let Some(n) = first_record(&piece[p.taken..]) {
+        let end = p.taken + n;
+        serve_record(book, &piece[p.taken..end], lines, p.place);
+        p.place += 1;
+        p.taken = end;
     }
+    p
 }
 
 // Moves the bytes between two places to the front; answers how many they are.
@@ -127,8 +110,6 @@ pub fn move_to_front(bytes: &mut [u8], from: usize, end: usize) -> usize
     ensures { (from + result ≡ end) × (take result bytes.new ≡ drop from (take end bytes.old)) }
 {
     let count = end - from;
-    for i in 0..count {
-        bytes[i] = bytes[from + i];
-    }
+    bytes.copy_within(from..end, 0);
     count
 }

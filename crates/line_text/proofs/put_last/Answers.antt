@@ -1,13 +1,14 @@
 -- `line_text::put_last` meets its contract.
 -- Assumes nothing.
-use Rattle.line_text.proofs.Texts.{none_left, last_put}
+use Rattle.std.proofs.Common.{arith}
+use Rattle.std.proofs.lemmas.Grind.{common_steps}
+use Rattle.line_text.specs.Text.{last_line}
 use Rattle.line_text.proofs.put_last.Goals as goal
 
-pub returns-then-rest-eq0 : goal.returns-then-rest-eq0
-returns-then-rest-eq0 c =
-    none_left c.args.lines.now c.args.place c.args.rest.now c.if-rest-eq0.true
+pub returns-in-Some : goal.returns-in-Some
+unfolding last_line
+returns-in-Some g c = grind (arith, common_steps)
 
-pub returns : goal.returns
-returns c =
-    let line = c.put_line in
-    last_put c.args.lines.now line.new.lines c.args.place line.result c.args.rest.now c.if-rest-eq0.false c.requires line.ensures
+pub returns-in_default : goal.returns-in_default
+unfolding last_line
+returns-in_default g c = grind (arith, common_steps)

@@ -1,10 +1,14 @@
 -- `line_text::put_number` meets its contract: the digits are the numeral, and the byte stands behind them.
 -- Assumes nothing.
-use Rattle.line_text.proofs.Texts.{number_put}
+use Rattle.std.proofs.Common.{◌≡◌, ap, ◌∙◌, ◌∷◌, [], ◌++◌, List, ℕ, arith, append_assoc, take}
+use Rattle.std.proofs.lemmas.Grind.{common_steps}
+use Rattle.line_text.specs.Text.{numeral}
+use Rattle.line_text.proofs.Numerals.{decimal_numeral}
 use Rattle.line_text.proofs.put_number.Goals as goal
 
-pub returns : goal.returns
-returns c =
+pub returns-clause-text_after : goal.returns-clause-text_after
+returns-clause-text_after g c =
     let made = c.decimal-count in
-    let done = c.put_digits-end in
-    number_put c.args.lines.now made.new.out c.args.at c.args.number c.args.after made.result done.result made.ensures.len made.ensures.digits made.ensures.in_bounds.0 done.ensures.0 done.ensures.1 done.ensures.2 c.requires
+    let text : take made.result made.new.out ≡ numeral c.args.number = made.ensures.digits ∙ decimal_numeral c.args.number made.result made.ensures.len in
+    let put : c.try_extend_from_slice.new.self.items ≡ c.args.text.now.items ++ numeral c.args.number = grind (arith, common_steps) in
+    c.push.ensures.items ∙ ap (λ (z : List ℕ). z ++ (c.args.after ∷ [])) put ∙ append_assoc c.args.text.now.items (numeral c.args.number) (c.args.after ∷ [])

@@ -1,11 +1,11 @@
 -- `lines::length_of` meets its contract.
 -- Assumes nothing.
-use native.Mathlib.Omega.{arith}
+use Rattle.std.proofs.Common.{arith}
 use Rattle.lines.proofs.Cuts.{known_length, unknown_length}
 use Rattle.lines.proofs.length_of.Goals as goal
 
-pub returns-then-k-lt-KINDS : goal.returns-then-k-lt-KINDS
-returns-then-k-lt-KINDS c = known_length c.args.kind (omega arith) (cc)
+pub returns-then-k-lt-KINDS-clause-some : goal.returns-then-k-lt-KINDS-clause-some
+returns-then-k-lt-KINDS-clause-some c = known_length c.args.kind (omega arith) (cc)
 
-pub returns-else-k-lt-KINDS : goal.returns-else-k-lt-KINDS
-returns-else-k-lt-KINDS c = unknown_length c.args.kind (omega arith)
+pub returns-else-k-lt-KINDS-clause-none : goal.returns-else-k-lt-KINDS-clause-none
+returns-else-k-lt-KINDS-clause-none c = unknown_length c.args.kind (omega arith)

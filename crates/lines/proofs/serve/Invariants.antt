@@ -6,8 +6,8 @@ use lib.ListN.{length}
 use Rattle.lines.proofs.Serving.{Walk}
 use Rattle.lines.proofs.serve.Given as goal
 
-abbrev pub invariant-loop-p : goal.invariant-loop-p
-invariant-loop-p l = (length l.book ≡ length l.initial.book) × Walk l.piece l.initial.book l.initial.lines l.place l.book l.lines l.p.place l.p.taken l.p.waiting
+abbrev pub invariant-loop-n : goal.invariant-loop-n
+invariant-loop-n g l = (length l.book ≡ length l.initial.book) × Walk l.piece l.initial.book l.initial.lines.items l.place l.book l.lines.items l.p.place l.p.taken
 
-abbrev pub decreases-loop-p : goal.decreases-loop-p
-decreases-loop-p l = length l.piece - l.p.taken
+abbrev pub decreases-loop-n : goal.decreases-loop-n
+decreases-loop-n g l = length l.piece - l.p.taken

@@ -1,0 +1,15 @@
+-- `desk::Desk::serve_piece` meets its contract: what was held, with what was read behind it, is served, and its lines are written.
+-- Assumes nothing.
+use Rattle.desk.proofs.Desk.serve_piece.Goals as goal
+
+pub returns-clause-piece : goal.returns-clause-piece
+returns-clause-piece g c =
+    let gained = c.read_more.ensures.gained in
+    let held = c.serve_held in
+    record {
+      got = gained.got;
+      lines = held.new.self.lines.items;
+      consumed = gained.consumed;
+      served = rw gained.behind at held.ensures.served;
+      appended = c.in_ok-write_lines.ensures;
+    }
