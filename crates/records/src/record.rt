@@ -1,4 +1,4 @@
-// A record whose numbers are in the ranges of its kind's fields: the reader makes no other, and the writer writes no other.
+// A record whose numbers are in the ranges of its kind's fields: the reader makes no other.
 ghost use Rattle.std.specs.Prelude.{◌≡◌, ◌<◌, true, false, MatchResult};
 ghost use Rattle.answers.specs.declared.Refusal.TheVariants.{OutOfRange};
 ghost use Rattle.record_kinds.specs.Kinds.{places, in_range};
