@@ -1,4 +1,4 @@
-// A record whose numbers are in the ranges of its kind's fields: the reader makes no other, and the writer writes no other.
+// A record whose numbers are in the ranges of its kind's fields: the reader makes no other.
 ghost use Rattle.std.specs.Prelude.{◌≡◌, ◌<◌, true, false, MatchResult};
 ghost use Rattle.answers.specs.declared.Refusal.TheVariants.{OutOfRange};
 ghost use Rattle.record_kinds.specs.Kinds.{places, in_range};
@@ -41,7 +41,7 @@ fn is_in_range(kind: Kind, j: usize, x: u64) -> bool
 }
 
 // Are a record's numbers in the ranges of the kind's fields?
-fn are_in_ranges(kind: Kind, fields: &Fields) -> bool
+pub(crate) fn are_in_ranges(kind: Kind, fields: &Fields) -> bool
     ensures { result ≡ are_legal (kind_number kind) fields.now }
 {
     for j in 0..PLACES {

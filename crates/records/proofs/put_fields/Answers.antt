@@ -11,7 +11,7 @@ pub put_number-requires : goal.put_number-requires
 put_number-requires c = (omega arith, omega (arith, length_some _ c.requires))
 
 pub loop-j-init : goal.loop-j-init
-loop-j-init c = (omega arith, search start_first, search rules, fill_start _ _ c.args.part.now (kind_below c.args.legal.now.kind) (rw c.from.ensures at c.put_number.ensures))
+loop-j-init c = (omega arith, search start_first, search rules, fill_start _ _ c.args.part.now (kind_below c.args.kind) (rw c.from.ensures at c.put_number.ensures))
 
 pub put_number-requires-in-loop-j : goal.put_number-requires-in-loop-j
 put_number-requires-in-loop-j c = (search place_inside, search field_usual)

@@ -10,4 +10,4 @@ use Rattle.records.specs.Writing.{record_bytes_to}
 use Rattle.records.proofs.put_fields.Given as goal
 
 abbrev pub invariant-loop-j : goal.invariant-loop-j
-invariant-loop-j l = (l.j ≤ places) × (l.at ≡ offset_of (kind_number l.legal.kind) l.j) × (length l.part ≡ length_of (kind_number l.legal.kind)) × (l.part ≡ record_bytes_to (kind_number l.legal.kind) l.legal.fields l.j ++ drop l.at l.fn.part)
+invariant-loop-j l = (l.j ≤ places) × (l.at ≡ offset_of (kind_number l.kind) l.j) × (length l.part ≡ length_of (kind_number l.kind)) × (l.part ≡ record_bytes_to (kind_number l.kind) l.fields l.j ++ drop l.at l.fn.part)
