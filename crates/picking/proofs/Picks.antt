@@ -1,13 +1,15 @@
 -- Laws of a pick.
 -- Assumes nothing.
 use mathlib.Core.Path.{◌≡◌, refl, sym, ap, ◌∙◌}
-use mathlib.Core.Bool.{Bool, true, false, and-true}
+use mathlib.Core.Bool.{Bool, true, false, not}
 use mathlib.Core.List.{List}
 use mathlib.Core.Logic.{⊎_elim}
-use Prim.Native.Nat.{ℕ, zero, suc, ◌+◌, ◌-◌, ◌≤◌, ◌<◌}
+use Prim.Native.Nat.{ℕ, zero, suc, ◌+◌, ◌-◌, ◌≤◌, ◌<◌, min}
 use native.Mathlib.Numerals.{add-one}
 use native.Mathlib.Omega.{arith}
+use lib.Dec.{eqb}
 use lib.ListN.{get_or}
+use Rattle.std.specs.Int.{from_bool}
 use borrow.Author.Tests.{ne_eqb}
 use Rattle.laws.proofs.Cases.{either}
 use Rattle.baskets.specs.Basket.{eligible}
@@ -22,6 +24,11 @@ use Rattle.picking.specs.declared.Outcome.{Outcome}
 use Rattle.parcels.specs.declared.Parcel.{Parcel}
 use Rattle.parcels.proofs.Parcels.{picked_worth, pick_empty}
 
+-- a nominal counts once where there is one
+pub counts : (n : ℕ) → from_bool (not (eqb n 0)) ≡ min n 1
+counts zero = refl
+counts (suc n) = let e : eqb (suc n) 0 ≡ false = ne_eqb (suc n) 0 (λ q. omega arith) in rw e (omega arith)
+
 module _ (columns account : List ℕ) (eligible : ℕ → Bool) where
   -- a security in the map of the eligible, and one that is not
   pub from_eligible : (i remains : ℕ) → eligible i ≡ true → parcel_from columns account eligible i remains ≡ parcel_to_pick (security_at columns i) (get_or account i 0) remains
@@ -32,11 +39,11 @@ module _ (columns account : List ℕ) (eligible : ℕ → Bool) where
   unfolding parcel_from
   from_other i remains e = rw e
 
-  -- a parcel without a nominal is the same for both
-  pub from_empty : (i remains : ℕ) {p : Parcel} → p ≡ parcel_to_pick (security_at columns i) (get_or account i 0) remains → p.nominal ≡ 0 → p ≡ parcel_from columns account eligible i remains
+  -- a parcel without a nominal is the empty one for both
+  pub from_empty : (i remains : ℕ) {p : Parcel} → p ≡ parcel_to_pick (security_at columns i) (get_or account i 0) remains → p.nominal ≡ 0 → no_parcel ≡ parcel_from columns account eligible i remains
   from_empty i remains {p} e z =
       let none : p ≡ no_parcel = e ∙ pick_empty (security_at columns i) (get_or account i 0) remains (sym (ap (λ (q : Parcel). q.nominal) e) ∙ z) in
-      ⊎_elim (λ t. e ∙ sym (from_eligible i remains t)) (λ t. none ∙ sym (from_other i remains t)) (either (eligible i))
+      ⊎_elim (λ t. sym none ∙ e ∙ sym (from_eligible i remains t)) (λ t. sym (from_other i remains t)) (either (eligible i))
 
   -- no parcel is worth more than what remains
   pub parcel_worth : (i remains : ℕ) → (parcel_from columns account eligible i remains).value ≤ remains
@@ -71,11 +78,6 @@ unfolding picked_below parcel_from
 picked_same columns account e f amount zero h = refl
 picked_same columns account e f amount (suc n) h =
     rw (picked_same columns account e f amount n (λ i l. h i (omega arith)), h n (omega arith))
-
--- leaving out number 64 leaves out none
-pub picked_all : (columns account : List ℕ) (e : ℕ → Bool) (amount : ℕ) → picked columns account (but_not 64 e) amount ≡ picked columns account e amount
-picked_all columns account e amount =
-    picked_same columns account (but_not 64 e) e amount 64 (λ i l. rw (ne_eqb i 64 (λ q. omega arith), and-true))
 
 -- eligible by the day of the quote, picked by the price's age
 module _ (columns account : List ℕ) (amount : ℕ) {b : Basket} {today : ℕ} {x : Eligibility} (f : EligibilityFor b today columns x) where

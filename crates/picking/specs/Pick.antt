@@ -1,6 +1,6 @@
 -- Document 01, "Steps": Pick amount X from a giver's account. The outcome "holds one nominal for each of the 64 securities".
 -- Assumes nothing.
-use Rattle.std.specs.Prelude.{Bool, not, ◌&&◌, cond, List, ℕ, zero, suc, ◌+◌, ◌-◌, min, eqb, get_or, set, replicate}
+use Rattle.std.specs.Prelude.{Bool, not, ◌&&◌, cond, List, Option, Some, None, ℕ, zero, suc, ◌+◌, ◌-◌, min, eqb, get_or, set, replicate}
 use Rattle.securities.specs.Security.{security_at}
 use Rattle.parcels.specs.Lots.{no_parcel, parcel_to_pick}
 use Rattle.picking.specs.declared.Outcome.{Outcome}
@@ -14,9 +14,14 @@ nothing = record { nominals = replicate 64 0; value = 0; count = 0 }
 abbrev pub with_parcel : ℕ → Parcel → Outcome → Outcome
 with_parcel i p o = record { nominals = set o.nominals i p.nominal; value = o.value + p.value; count = o.count + min p.nominal 1 }
 
--- a test that leaves one security out; 64 leaves out none
+-- a test that leaves one security out
 abbrev pub but_not : ℕ → (ℕ → Bool) → ℕ → Bool
 but_not left test i = test i && not (eqb i left)
+
+-- the same where there may be none to leave out
+abbrev pub but : Option ℕ → (ℕ → Bool) → ℕ → Bool
+but None test = test
+but (Some left) test = but_not left test
 
 module _ (columns account : List ℕ) (eligible : ℕ → Bool) where
   -- from security i, where it is eligible: as many whole lots as are worth no more than what remains

@@ -10,14 +10,14 @@ ghost use Rattle.securities.specs.Bounds.{AllInBounds, Within};
 ghost use Rattle.valuation.specs.Value.{value};
 ghost use Rattle.picking.specs.Free.{freed};
 ghost use Rattle.picking.specs.FreeSteps.{parcel_back, first_to_free};
-ghost use Rattle.picking.specs.Pick.{but_not, parcel_from, picked};
+ghost use Rattle.picking.specs.Pick.{but, parcel_from, picked};
 
 use baskets::Eligibility;
-use parcels::Parcel;
+use parcels::{NO_PARCEL, Parcel};
 
 // A pick's outcome: the nominal picked of each security, the value found in cents, and how many securities.
 #[repr(C)]
-#[derive(Clone, Copy)]
+#[derive(Clone, Copy, Debug, PartialEq, Eq)]
 pub struct Outcome {
     pub nominals: [u64; 64],
     pub value: u64,
@@ -26,7 +26,7 @@ pub struct Outcome {
 
 // What a free leaves: the nominal given back of each security, the value of the position left, and how many securities gave back.
 #[repr(C)]
-#[derive(Clone, Copy)]
+#[derive(Clone, Copy, Debug, PartialEq, Eq)]
 pub struct Freed {
     pub nominals: [u64; 64],
     pub left: u64,
@@ -34,14 +34,11 @@ pub struct Freed {
 }
 
 // Is the security i eligible, and not the one left out?
-fn is_allowed(x: Eligibility, omitted: u64, columns: &[u64; 256], i: usize) -> bool
+fn is_allowed(x: Eligibility, omitted: Option<usize>, columns: &[u64; 256], i: usize) -> bool
     requires { (i < 64) × AllInBounds columns.now }
-    ensures { result ≡ but_not omitted (eligible_by x columns.now) i }
+    ensures { result ≡ but omitted (eligible_by x columns.now) i }
 {
-    if i as u64 == omitted {
-        return false;
-    }
-    baskets::is_eligible(x, columns, i)
+    omitted != Some(i) && baskets::is_eligible(x, columns, i)
 }
 
 // What the pick takes from security i. Whether it is eligible is asked last: it costs most.
@@ -49,24 +46,18 @@ fn parcel_from(
     account: &[u64; 64],
     columns: &[u64; 256],
     x: Eligibility,
-    omitted: u64,
+    omitted: Option<usize>,
     i: usize,
     remains: u64,
 ) -> Parcel
     requires { (i < 64) × AllInBounds columns.now × Within (nominals_of account.now) }
-    ensures { result ≡ parcel_from columns.now account.now (but_not omitted (eligible_by x columns.now)) i remains }
+    ensures { result ≡ parcel_from columns.now account.now (but omitted (eligible_by x columns.now)) i remains }
 {
     let p = parcels::parcel_to_pick(securities::security_at(columns, i), account[i], remains);
-    if p.nominal == 0 {
-        return p;
-    }
-    if is_allowed(x, omitted, columns, i) {
+    if p.nominal != 0 && is_allowed(x, omitted, columns, i) {
         p
     } else {
-        Parcel {
-            nominal: 0,
-            value: 0,
-        }
+        NO_PARCEL
     }
 }
 
@@ -75,11 +66,11 @@ pub fn pick(
     account: &[u64; 64],
     columns: &[u64; 256],
     x: Eligibility,
-    omitted: u64,
+    omitted: Option<usize>,
     amount: u64,
 ) -> Outcome
     requires { AllInBounds columns.now × Within (nominals_of account.now) }
-    ensures { result ≡ picked columns.now account.now (but_not omitted (eligible_by x columns.now)) amount }
+    ensures { result ≡ picked columns.now account.now (but omitted (eligible_by x columns.now)) amount }
 {
     let mut nominals = [0u64; 64];
     let mut value: u64 = 0;
@@ -88,7 +79,7 @@ pub fn pick(
         let p = parcel_from(account, columns, x, omitted, i, amount - value);
         nominals[i] = p.nominal;
         value += p.value;
-        count += parcels::smaller(p.nominal, 1);
+        count += u64::from(p.nominal != 0);
     }
     Outcome {
         nominals,
@@ -102,7 +93,7 @@ pub fn pick_for(account: &[u64; 64], columns: &[u64; 256], x: Eligibility, amoun
     requires { AllInBounds columns.now × Within (nominals_of account.now) }
     ensures { result ≡ picked columns.now account.now (eligible_by x columns.now) amount }
 {
-    pick(account, columns, x, 64, amount)
+    pick(account, columns, x, None, amount)
 }
 
 // What the free gives back of security i.
@@ -139,13 +130,11 @@ pub fn free(position: &[u64; 64], columns: &[u64; 256], exposure: u64) -> Freed
     let mut nominals = [0u64; 64];
     let mut left = securities::worth_of(position, columns);
     let mut count: u64 = 0;
-    let mut i: usize = first_to_free(left, exposure);
-    while 0 < i {
-        i -= 1;
+    for i in (0..first_to_free(left, exposure)).rev() {
         let p = parcel_back(position, columns, i, left, exposure);
         nominals[i] = p.nominal;
         left -= p.value;
-        count += parcels::smaller(p.nominal, 1);
+        count += u64::from(p.nominal != 0);
     }
     Freed {
         nominals,

@@ -1,9 +1,10 @@
 -- `picking::free` meets its contract: the securities from `i` on are done.
 -- Assumes nothing.
-use mathlib.Core.Path.{◌≡◌}
+use mathlib.Core.Path.{◌≡◌, ◌∙◌}
 use Prim.Native.Nat.{suc, ◌-◌}
 use native.Mathlib.Omega.{arith}
 use Rattle.picking.specs.Free.{freed_above}
+use Rattle.picking.proofs.Picks.{counts}
 use Rattle.picking.proofs.Frees.{Freeing, back_part, loss_le, step_is, freeing, begins, first_le}
 use Rattle.picking.proofs.free.Goals as goal
 use Rattle.picking.proofs.free.Goals.{At-loop-i}
@@ -32,7 +33,7 @@ overflow_sub-left c =
     loss_le a.columns.now a.position.now a.exposure (c.loop-i.i - 1) (64 - c.loop-i.i) _ (on-the-way (goal.at.overflow_sub-left c).At-loop-i) (omega arith) c.parcel_back-p.ensures
 
 pub overflow_add-count : goal.overflow_add-count
-overflow_add-count c = omega (arith, (on-the-way (goal.at.overflow_add-count c).At-loop-i).few, c.smaller-count.ensures)
+overflow_add-count c = omega (arith, (on-the-way (goal.at.overflow_add-count c).At-loop-i).few, c.from-count.ensures ∙ counts _)
 
 pub loop-i-preserved : goal.loop-i-preserved
 unfolding freed_above
@@ -41,7 +42,7 @@ loop-i-preserved c =
     let next : 64 - (c.loop-i.i - 1) ≡ suc (64 - c.loop-i.i) = omega (arith, c.loop-i.invariant.0) in
     let at : 63 - (64 - c.loop-i.i) ≡ c.loop-i.i - 1 = omega (arith, c.loop-i.invariant.0) in (
       omega arith,
-      rw (next, at, ← c.loop-i.invariant.1, c.smaller-count.ensures)
+      rw (next, at, ← c.loop-i.invariant.1, c.from-count.ensures, counts c.parcel_back-p.result.nominal)
           (step_is a.columns.now a.position.now a.exposure (c.loop-i.i - 1) (64 - c.loop-i.i) _ (on-the-way (goal.at.loop-i-preserved c).At-loop-i) (omega arith) c.parcel_back-p.ensures),
     )
 

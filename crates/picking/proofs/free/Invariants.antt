@@ -8,6 +8,3 @@ use Rattle.picking.proofs.free.Given as goal
 
 abbrev pub invariant-loop-i : goal.invariant-loop-i
 invariant-loop-i l = (l.i ≤ 64) × (◌≡◌ {A = Freed} (record { nominals = l.nominals; left = l.left; count = l.count }) (freed_above l.columns l.position l.exposure (64 - l.i)))
-
-abbrev pub decreases-loop-i : goal.decreases-loop-i
-decreases-loop-i l = l.i
