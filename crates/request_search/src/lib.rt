@@ -10,13 +10,14 @@ ghost use Rattle.book.specs.State.{state};
 ghost use Rattle.book.specs.Tables.{number};
 ghost use Rattle.record_kinds.specs.Numbered.{kind_number};
 ghost use Rattle.rules.specs.Requests.{is_live, is_paired, is_owner, accepts_giver, free_exposure, free_row};
-ghost use Rattle.rules.specs.Requesting.{taker_follows, is_equal, earliest_equal, is_own_request, own_request};
+ghost use Rattle.rules.specs.Requesting.{taker_follows, is_equal, earliest_equal, exposure_of, is_own_request, own_request};
 ghost use Rattle.rules.specs.Fields.{closing_in};
 ghost use Rattle.request_search.specs.Ranges.{RequestIn};
 ghost use Rattle.request_search.specs.Rows.{rows_free, same_terms, other_side, earlier_of, open_or_whole, first_empty};
 
 use book::Book;
 use book::layout::Table;
+use exposure_search::ExposureKey;
 use record_kinds::Kind;
 use records::record::Record;
 
@@ -147,6 +148,19 @@ pub fn free_exposure(book: &Book) -> Option<usize>
     ensures { result ≡ found 64 (free_exposure (state book.now)) }
 {
     first_empty(book, Table::InUse, 64)
+}
+
+// The used exposure that a FOP belongs to: the one with its key.
+pub fn exposure_of(book: &Book, request: &Record) -> Option<usize>
+    ensures { result ≡ found 64 (exposure_of (state book.now) request.now.fields) }
+{
+    let key = ExposureKey {
+        giver: request.fields[1],
+        taker: request.fields[2],
+        basket: request.fields[3],
+        closing: request.fields[6],
+    };
+    exposure_search::exposure_with(book, key)
 }
 
 // Has the request not ended, or has it settled whole?
