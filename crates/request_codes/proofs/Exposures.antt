@@ -17,14 +17,11 @@ use Rattle.book.specs.State.{State}
 use Rattle.record_kinds.specs.Numbered.{kind_number}
 use Rattle.record_kinds.specs.declared.Kind.{Kind}
 use Rattle.record_kinds.specs.declared.Kind.TheVariants.{Fop}
+use Rattle.request_search.proofs.Nowhere.{nowhere}
 use Rattle.rules.specs.Outcome.{lowest}
 use Rattle.rules.specs.Requests.{free_exposure}
 use Rattle.rules.specs.Requesting.{exposure_of, pairs_now}
 use Rattle.request_codes.specs.Rules.{exposure_rules}
-
-nowhere : (t : ℕ → Bool) {r : Option ℕ} {b : Bool} → r ≡ found 64 (least t 64 0) → is_some r ≡ not b → b ≡ true → eqb (least t 64 0) 64 ≡ true
-nowhere t {r = None} e s h = eq-eqb (least t 64 0) 64 (omega (arith, found_nothing 64 (least t 64 0) e refl, least_le t 64 0))
-nowhere t {r = Some x} e s h = clash (sym s) (rw h)
 
 pub none_free : (s : State) (r : List ℕ) {e x : Option ℕ} {b d p : Bool} {kind : Kind} → e ≡ found 64 (free_exposure s) → is_some e ≡ not b → b ≡ true
     → x ≡ found 64 (exposure_of s r) → is_some x ≡ not d → d ≡ true → kind ≡ Fop → p ≡ pairs_now s (kind_number kind) r → p ≡ true → 15 ≡ lowest (exposure_rules s r)
