@@ -1,18 +1,12 @@
 -- A FOP that pairs, and finds neither its exposure nor a free row.
 -- Assumes nothing.
-use mathlib.Core.Path.{◌≡◌, refl, sym, ◌∙◌}
+use mathlib.Core.Path.{◌≡◌, sym, ◌∙◌}
 use mathlib.Core.Bool.{Bool, true, not}
 use mathlib.Core.List.{List}
 use Prim.Native.Nat.{ℕ}
-use native.Mathlib.Omega.{arith}
-use lib.Dec.{eqb}
-use borrow.Author.Tests.{eq-eqb}
-use Rattle.std.specs.Prelude.{Option, Some, None}
+use Rattle.std.specs.Prelude.{Option}
 use Rattle.std.specs.Option.{is_some}
-use Rattle.laws.specs.Search.{least, found}
-use Rattle.laws.proofs.Cases.{clash}
-use Rattle.laws.proofs.Found.{found_nothing}
-use Rattle.facts.proofs.Searches.{least_le}
+use Rattle.laws.specs.Search.{found}
 use Rattle.book.specs.State.{State}
 use Rattle.record_kinds.specs.Numbered.{kind_number}
 use Rattle.record_kinds.specs.declared.Kind.{Kind}

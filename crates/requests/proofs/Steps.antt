@@ -1,4 +1,4 @@
--- What each return of the steps of kinds 6 to 8 shows.
+-- What the steps of kinds 6 to 8 leave.
 -- Assumes nothing.
 use mathlib.Core.Path.{◌≡◌, refl, sym, ◌∙◌}
 use mathlib.Core.Bool.{Bool, true, false, and-false, or-true}
@@ -7,6 +7,9 @@ use Prim.Native.Nat.{ℕ, ◌+◌, ◌≤◌, ◌<◌}
 use lib.Dec.{ltb}
 use lib.ListN.{get_or}
 use borrow.Author.Tests.{eq-eqb, ne_eqb, lt-ltb, le-ltb}
+use Rattle.std.specs.Prelude.{Option, Some, None}
+use Rattle.laws.specs.Search.{found}
+use Rattle.laws.proofs.Found.{found_some, found_nothing}
 use Rattle.book.specs.Layout.{next_number, numbers, sides, givers, takers, partners, cancels, ends}
 use Rattle.book.specs.State.{State, put}
 use Rattle.rules.specs.Requests.{accepts_giver, partner_of, free_exposure}
@@ -55,10 +58,13 @@ module _ (s : State) (k : ℕ) (r : List ℕ) {b : Bool} (bq : b ≡ taker_follo
       pub entered_with_taker : {n : ℕ} {u : State} → n ≡ s next_number 0 → u ≡ with_exposure t k r → Entered s k r (n + 1) u
       entered_with_taker nq uq = record { partner_is = rw (nq, sym bq ∙ h); state_is = uq ∙ state_entered s t k r taker_key taker_free taker_pairs taker_rows }
 
-  module _ (alone : b ≡ false) {j : ℕ} (jq : j ≡ earliest_equal s k r) where
-    module _ (l : j < 256) {t : State} (tq : t ≡ with_equal s k r j) where
+  module _ (alone : b ≡ false) {o : Option ℕ} (oq : o ≡ found 256 (earliest_equal s k r)) where
+    module _ {j : ℕ} (is : o ≡ Some j) {t : State} (tq : t ≡ with_equal s k r j) where
+      which : (j ≡ earliest_equal s k r) × (earliest_equal s k r < 256)
+      which = found_some 256 (earliest_equal s k r) oq is
+
       some_equal : ltb (earliest_equal s k r) 256 ≡ true
-      some_equal = rw (← jq) (lt-ltb j 256 l)
+      some_equal = lt-ltb (earliest_equal s k r) 256 which.1
 
       equal_key : lacks_exposure t k r ≡ lacks_exposure s k r
       unfolding with_equal with_row
@@ -72,18 +78,18 @@ module _ (s : State) (k : ℕ) (r : List ℕ) {b : Bool} (bq : b ≡ taker_follo
       equal_pairs = rw (some_equal, or-true)
 
       equal_rows : rows_entered s k r ≡ t
-      equal_rows = rw (sym bq ∙ alone, some_equal, ← jq) (sym tq)
+      equal_rows = rw (sym bq ∙ alone, some_equal, ← which.0) (sym tq)
 
       pub equal_room : Room s k r → ExposureRoom t k r
       equal_room = exposure_room s t k r equal_key equal_free equal_pairs
 
       pub entered_with_equal : {x : ℕ} {u : State} → x ≡ s numbers j → u ≡ with_exposure t k r → Entered s k r x u
-      entered_with_equal xq uq = record { partner_is = rw (xq, sym bq ∙ alone, some_equal, ← jq); state_is = uq ∙ state_entered s t k r equal_key equal_free equal_pairs equal_rows }
+      entered_with_equal xq uq = record { partner_is = rw (xq, sym bq ∙ alone, some_equal, ← which.0); state_is = uq ∙ state_entered s t k r equal_key equal_free equal_pairs equal_rows }
 
-    pub entered_waiting : {t : State} → 256 ≤ j → t ≡ waiting s k r → Entered s k r 0 t
+    pub entered_waiting : {t : State} → o ≡ None → t ≡ waiting s k r → Entered s k r 0 t
     unfolding entered
-    entered_waiting l tq =
-        let none : ltb (earliest_equal s k r) 256 ≡ false = rw (← jq) (le-ltb j 256 l) in
+    entered_waiting is tq =
+        let none : ltb (earliest_equal s k r) 256 ≡ false = le-ltb (earliest_equal s k r) 256 (found_nothing 256 (earliest_equal s k r) oq is) in
         record { partner_is = rw (sym bq ∙ alone, none); state_is = rw (sym bq ∙ alone, none, and-false) tq }
 
 -- its number and its partner's, which are answered
@@ -91,34 +97,15 @@ pub entered_totals : (s : State) (k : ℕ) (r : List ℕ) {n p : ℕ} {t : State
 unfolding entered
 entered_totals s k r nq e = rw (nq, e.partner_is)
 
--- a pair ends
-module _ (s : State) {i j : ℕ} (at : PairIn s i j) {x : ℕ} (xq : x ≡ s cancels j) where
-  partner_cancel : x ≡ s cancels (partner_of s i)
-  partner_cancel = rw (← at.partner) xq
-
-  pub both_cancelled : x ≡ 1 → true ≡ pair_ends s i
-  both_cancelled h = rw (← partner_cancel, eq-eqb x 1 h)
-
-  module _ (n : x ≡ 1 → ⊥) {d : ℕ} (dq : d ≡ s sides i) where
-    pub taker_cancels : (d ≡ 0 → ⊥) → false ≡ pair_ends s i
-    taker_cancels h = rw (← partner_cancel, ne_eqb x 1 n, ← dq, ne_eqb d 0 h)
-
-    pub by_accepting : {t g : ℕ} {b : Bool} → d ≡ 0 → t ≡ s takers i → g ≡ s givers i → b ≡ accepts_giver s t g → b ≡ pair_ends s i
-    by_accepting h tq gq bq = rw (← partner_cancel, ne_eqb x 1 n, ← dq, eq-eqb d 0 h, ← tq, ← gq) bq
-
-module _ (s : State) {i j : ℕ} (at : PairIn s i j) {b : Bool} (bq : b ≡ pair_ends s i) where
-  pub pair_ended : {t u v : State} → t ≡ put s cancels i 1 → b ≡ true → u ≡ put t ends i 1 → v ≡ put u ends j 1 → v ≡ cancelled_pair s i
-  pair_ended tq h uq vq = rw (vq, uq, tq, at.partner, sym bq ∙ h)
-
-  pub cancel_noted : {t : State} → t ≡ put s cancels i 1 → b ≡ false → t ≡ cancelled_pair s i
-  cancel_noted tq h = rw (sym bq ∙ h) tq
-
 -- a cancel
 pub cancelled_silent : (s : State) (r : List ℕ) → record { a = 0; b = 0; m = 0 } ≡ totals_of (cancelled s r)
 unfolding cancelled
 cancelled_silent s r = refl
 
-module _ (s : State) (r : List ℕ) {i : ℕ} (iq : i ≡ own_request s (get_or r 0 0) (get_or r 1 0)) {p : ℕ} (pq : p ≡ s partners i) where
+module _ (s : State) (r : List ℕ) {o : Option ℕ} (oq : o ≡ found 256 (own_request s (get_or r 0 0) (get_or r 1 0))) {i : ℕ} (is : o ≡ Some i) {p : ℕ} (pq : p ≡ s partners i) where
+  iq : i ≡ own_request s (get_or r 0 0) (get_or r 1 0)
+  iq = (found_some 256 (own_request s (get_or r 0 0) (get_or r 1 0)) oq is).0
+
   pub cancelled_alone : {t : State} → p ≡ 0 → t ≡ put s ends i 1 → t ≡ (cancelled s r).state
   unfolding cancelled
   cancelled_alone h tq = rw (← iq, eq-eqb (s partners i) 0 (sym pq ∙ h)) tq
