@@ -24,9 +24,12 @@ settlement_rules s r = day_not_open (settlement_in r) ∷ rule (ltb (settlement_
 abbrev pub closing_rules : List ℕ → List Rule
 closing_rules r = rule (not (eqb (closing_in 6 r) 0) && (not (open_day (closing_in 6 r)) || leb (closing_in 6 r) (settlement_in r))) 7 ∷ []
 
--- 5 and 7 of a FOP
+-- 7 of a FOP; 5 and 7
+abbrev pub fop_day_rules : State → List ℕ → List Rule
+fop_day_rules s r = settlement_rules s r ++ closing_rules r
+
 abbrev pub fop_name_rules : State → List ℕ → List Rule
-fop_name_rules s r = party_rules s r ++ (basket_name_rules s r ++ (settlement_rules s r ++ closing_rules r))
+fop_name_rules s r = party_rules s r ++ (basket_name_rules s r ++ fop_day_rules s r)
 
 -- 8 and 9: the taker is another than the giver, and has to enter a request of its own
 abbrev pub taker_rules : State → List ℕ → List Rule

@@ -2,81 +2,101 @@
 // that a FOP pair belongs to.
 #![tactic(auto)]
 
-ghost use Rattle.std.specs.Prelude.{◌≡◌, ◌<◌, length};
-ghost use Rattle.book.specs.Layout.{book_length};
+ghost use Rattle.std.specs.Prelude.{◌≡◌, ◌<◌};
 ghost use Rattle.book.specs.State.{state};
+ghost use Rattle.record_kinds.specs.Numbered.{kind_number};
 ghost use Rattle.rules.specs.Requesting.{exposure_given, with_taker, with_equal, waiting};
 ghost use Rattle.request_rows.specs.Rows.{EntryIn};
 ghost use Rattle.request_entry.specs.Entering.{RoomForOne, RoomForTwo, ExposureRoom, with_exposure};
 
 use book::Book;
 use book::layout::Table;
-use record_kinds::Fields;
+use record_kinds::Kind;
+use records::record::Record;
+use request_rows::Marks;
 
 // Enters a request that waits for an equal one.
-pub fn enter_waiting(book: &mut Book, kind: u64, fields: &Fields)
-    requires { EntryIn kind fields.now × RoomForOne (state book.old) }
-    ensures { state book.new ≡ waiting (state book.old) kind fields.now }
+pub fn enter_waiting(book: &mut Book, request: &Record)
+    requires { EntryIn (kind_number request.now.kind) request.now.fields × RoomForOne (state book.old) }
+    ensures { state book.new ≡ waiting (state book.old) (kind_number request.now.kind) request.now.fields }
 {
     let number = book::get(book, Table::NextNumber, 0);
     let i = request_rows::take_row(book, number);
-    request_rows::fill_row(book, kind, fields, i, fields[0], 0, 0);
+    let marks = Marks {
+        side: request.fields[0],
+        partner: None,
+        partial: false,
+    };
+    request_rows::fill_row(book, request, i, marks);
     book::set(book, Table::NextNumber, 0, number + 1);
 }
 
 // Enters a request and pairs it with the row j.
-pub fn enter_with_equal(book: &mut Book, kind: u64, fields: &Fields, j: usize)
-    requires { EntryIn kind fields.now × RoomForOne (state book.old) × (j < 256) }
-    ensures { state book.new ≡ with_equal (state book.old) kind fields.now j }
+pub fn enter_with_equal(book: &mut Book, request: &Record, j: usize)
+    requires { EntryIn (kind_number request.now.kind) request.now.fields × RoomForOne (state book.old) × (j < 256) }
+    ensures { state book.new ≡ with_equal (state book.old) (kind_number request.now.kind) request.now.fields j }
 {
     let number = book::get(book, Table::NextNumber, 0);
-    let mark = request_rows::partial_mark(book, fields);
+    let partial = request_rows::allow_partial(book, request);
     let i = request_rows::take_row(book, number);
-    request_rows::fill_row(book, kind, fields, i, fields[0], j as u64 + 1, mark);
-    book::set(book, Table::Partners, j, i as u64 + 1);
-    book::set(book, Table::PairPartials, j, mark);
+    let marks = Marks {
+        side: request.fields[0],
+        partner: Some(j),
+        partial,
+    };
+    request_rows::fill_row(book, request, i, marks);
+    request_rows::write_partner(book, j, Some(i), partial);
     book::set(book, Table::NextNumber, 0, number + 1);
 }
 
 // Enters a giver's request and the taker request made for it, with the same reference, and pairs them.
-pub fn enter_with_taker(book: &mut Book, kind: u64, fields: &Fields)
-    requires { EntryIn kind fields.now × RoomForTwo (state book.old) }
-    ensures { state book.new ≡ with_taker (state book.old) kind fields.now }
+pub fn enter_with_taker(book: &mut Book, request: &Record)
+    requires { EntryIn (kind_number request.now.kind) request.now.fields × RoomForTwo (state book.old) }
+    ensures { state book.new ≡ with_taker (state book.old) (kind_number request.now.kind) request.now.fields }
 {
     let number = book::get(book, Table::NextNumber, 0);
-    let mark = request_rows::partial_mark(book, fields);
+    let partial = request_rows::allow_partial(book, request);
     let i = request_rows::take_row(book, number);
-    let j = request_search::free_row(book);
-    request_rows::fill_row(book, kind, fields, i, 0, j as u64 + 1, mark);
+    let j = request_search::free_row(book).unwrap();
+    let given = Marks {
+        side: 0,
+        partner: Some(j),
+        partial,
+    };
+    request_rows::fill_row(book, request, i, given);
     book::set(book, Table::Numbers, j, number + 1);
-    request_rows::fill_row(book, kind, fields, j, 1, i as u64 + 1, mark);
+    let taken = Marks {
+        side: 1,
+        partner: Some(i),
+        partial,
+    };
+    request_rows::fill_row(book, request, j, taken);
     book::set(book, Table::NextNumber, 0, number + 2);
 }
 
 // Gives out the exposure row e, with the key of a FOP and the amount 0.
-fn give_exposure(book: &mut Book, fields: &Fields, e: usize)
-    requires { EntryIn 6 fields.now × (e < 64) }
-    ensures { state book.new ≡ exposure_given (state book.old) fields.now e }
+fn give_exposure(book: &mut Book, fop: &Record, e: usize)
+    requires { EntryIn 6 fop.now.fields × (e < 64) }
+    ensures { state book.new ≡ exposure_given (state book.old) fop.now.fields e }
 {
     book::set(book, Table::InUse, e, 1);
-    book::set(book, Table::ExposureGivers, e, fields[1]);
-    book::set(book, Table::ExposureTakers, e, fields[2]);
-    book::set(book, Table::ExposureBaskets, e, fields[3]);
-    book::set(book, Table::ExposureClosings, e, fields[6]);
+    book::set(book, Table::ExposureGivers, e, fop.fields[1]);
+    book::set(book, Table::ExposureTakers, e, fop.fields[2]);
+    book::set(book, Table::ExposureBaskets, e, fop.fields[3]);
+    book::set(book, Table::ExposureClosings, e, fop.fields[6]);
     book::set(book, Table::ExposureAmounts, e, 0);
 }
 
 // A FOP pair belongs to the exposure with its key; where there is none yet, the lowest free row is given out.
-pub fn join_exposure(book: &mut Book, kind: u64, fields: &Fields)
-    requires { EntryIn kind fields.now × ExposureRoom (state book.old) kind fields.now }
-    ensures { state book.new ≡ with_exposure (state book.old) kind fields.now }
+pub fn join_exposure(book: &mut Book, request: &Record)
+    requires { EntryIn (kind_number request.now.kind) request.now.fields × ExposureRoom (state book.old) (kind_number request.now.kind) request.now.fields }
+    ensures { state book.new ≡ with_exposure (state book.old) (kind_number request.now.kind) request.now.fields }
 {
-    if kind != 6 {
-        return;
+    match request.kind {
+        Kind::Fop if request_search::exposure_of(book, request).is_none() => {
+            let e = request_search::free_exposure(book).unwrap();
+            give_exposure(book, request, e);
+        }
+        _ => {}
     }
-    if exposure_search::exposure_with(book, fields[1], fields[2], fields[3], fields[6]) != 64 {
-        return;
-    }
-    let e = request_search::free_exposure(book);
-    give_exposure(book, fields, e);
 }

@@ -1,6 +1,6 @@
 -- What the functions that write a request's row count on of its record, and what they leave.
 -- Assumes nothing.
-use Rattle.std.specs.Prelude.{◌≡◌, List, [], ◌∷◌, ℕ, ◌≤◌}
+use Rattle.std.specs.Prelude.{◌≡◌, List, [], ◌∷◌, Option, Some, None, ℕ, ◌+◌, ◌≤◌}
 use Rattle.book.specs.Layout.{numbers, request_kinds, sides, givers, takers, baskets_or_exposures, amounts, settlements, closings, references, settled_amounts, partners, pair_partials, cancels, ends}
 use Rattle.book.specs.State.{State, put, put_row}
 use Rattle.rules.specs.Requests.{free_row}
@@ -15,12 +15,21 @@ pub record EntryIn (k : ℕ) (r : List ℕ) : Type 0 where
   pub closing : closing_in k r ≤ 4294967295
   pub reference : reference_in k r ≤ 18446744073709551615
 
+-- the mark of a partner: one more than its row, 0 for none
+abbrev pub mark_of : Option ℕ → ℕ
+mark_of None = 0
+mark_of (Some j) = j + 1
+
 -- the row's parties with their basket or exposure; its amount, days and reference; what it has come to: nothing settled, no cancel, no end
 unfoldable pub with_parties : State → List ℕ → ℕ → State
 with_parties s r i = put_row s (givers ∷ takers ∷ baskets_or_exposures ∷ []) i (giver_in r ∷ taker_in r ∷ basket_or_exposure_in r ∷ [])
 
 unfoldable pub with_terms : State → ℕ → List ℕ → ℕ → State
 with_terms s k r i = put_row s (amounts ∷ settlements ∷ closings ∷ references ∷ []) i (amount_in r ∷ settlement_in r ∷ closing_in k r ∷ reference_in k r ∷ [])
+
+-- a row's partner's mark and the pair's partial mark
+abbrev pub with_partner : State → ℕ → ℕ → ℕ → State
+with_partner s i partner partial = put (put s partners i partner) pair_partials i partial
 
 unfoldable pub with_marks : State → ℕ → ℕ → ℕ → State
 with_marks s i partner partial = put_row s (settled_amounts ∷ partners ∷ pair_partials ∷ cancels ∷ ends ∷ []) i (0 ∷ partner ∷ partial ∷ 0 ∷ 0 ∷ [])

@@ -1,2 +1,2 @@
-pub mod Searches
-pub mod Returns
+pub mod Earliest
+pub mod Nowhere

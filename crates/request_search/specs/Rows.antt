@@ -1,7 +1,7 @@
 -- What is looked for in the request rows: free ones, an equal request, one that a cancel may name.
 -- Assumes nothing.
 use Rattle.std.specs.Prelude.{Bool, ◌&&◌, ◌||◌, cond, List, ℕ, ◌+◌, eqb, ltb}
-use Rattle.laws.specs.Search.{count}
+use Rattle.laws.specs.Search.{count, least}
 use Rattle.book.specs.Layout.{numbers, request_kinds, sides, givers, takers, baskets_or_exposures, amounts, settlements, closings, ends}
 use Rattle.book.specs.State.{State}
 use Rattle.rules.specs.Requests.{is_whole}
@@ -30,3 +30,7 @@ earlier_of s k r best i = cond (is_equal s k r i && (eqb best 256 || ltb (s numb
 -- a used row that has not ended, or has settled whole: live or settled whole
 abbrev pub open_or_whole : State → ℕ → Bool
 open_or_whole s i = eqb (s ends i) 0 || is_whole s i
+
+-- the lowest of a table's rows below n that holds 0, n where none does
+abbrev pub first_empty : State → ℕ → ℕ → ℕ
+first_empty s f n = least (λ i. eqb (s f i) 0) n 0

@@ -1,87 +1,77 @@
 // What a request or a cancel looks for in the book: acceptance, the earliest equal request, free rows, the owner's request.
 #![tactic(auto)]
 
-ghost use Rattle.std.specs.Prelude.{◌≡◌, not, ◌&&◌, ◌<◌, ◌≤◌, length};
-ghost use Rattle.book.specs.Layout.{book_length};
+ghost use Rattle.std.specs.Prelude.{◌≡◌, not, ◌&&◌, ◌<◌, ◌≤◌, eqb, MatchOption};
+ghost use Rattle.std.specs.Bool.{⊤};
+ghost use Rattle.std.specs.Option.{unwrap_or};
+ghost use Rattle.laws.specs.Search.{least, found};
+ghost use Rattle.book.specs.Layout.{rows_of};
 ghost use Rattle.book.specs.State.{state};
+ghost use Rattle.book.specs.Tables.{number};
+ghost use Rattle.record_kinds.specs.Numbered.{kind_number};
 ghost use Rattle.rules.specs.Requests.{is_live, is_paired, is_owner, accepts_giver, free_exposure, free_row};
-ghost use Rattle.rules.specs.Requesting.{taker_follows, is_equal, earliest_equal, is_own_request, own_request};
+ghost use Rattle.rules.specs.Requesting.{taker_follows, is_equal, earliest_equal, exposure_of, is_own_request, own_request};
 ghost use Rattle.rules.specs.Fields.{closing_in};
 ghost use Rattle.request_search.specs.Ranges.{RequestIn};
-ghost use Rattle.request_search.specs.Rows.{rows_free, same_terms, other_side, earlier_of, open_or_whole};
+ghost use Rattle.request_search.specs.Rows.{rows_free, same_terms, other_side, earlier_of, open_or_whole, first_empty};
 
 use book::Book;
 use book::layout::Table;
-use record_kinds::Fields;
+use exposure_search::ExposureKey;
+use record_kinds::Kind;
+use records::record::Record;
 
 // Is the taker automatic, or does it list the giver?
 pub fn accepts_giver(book: &Book, taker: usize, giver: u64) -> bool
     requires { (taker < 32) × (giver < 64) }
     ensures { result ≡ accepts_giver (state book.now) taker giver }
 {
-    let mode = book::get(book, Table::Modes, taker);
-    if mode == 1 {
-        return true;
+    match book::get(book, Table::Modes, taker) {
+        1 => true,
+        2 => baskets::has_bit(book::get(book, Table::Lists, taker), giver),
+        _ => false,
     }
-    if mode == 2 {
-        return baskets::has_bit(book::get(book, Table::Lists, taker), giver);
-    }
-    false
 }
 
 // Is a taker request made for this one?
-pub fn does_taker_follow(book: &Book, fields: &Fields) -> bool
-    requires { RequestIn fields.now }
-    ensures { result ≡ taker_follows (state book.now) fields.now }
+pub fn does_taker_follow(book: &Book, request: &Record) -> bool
+    requires { RequestIn request.now.fields }
+    ensures { result ≡ taker_follows (state book.now) request.now.fields }
 {
-    if fields[0] != 0 {
-        return false;
-    }
-    accepts_giver(book, fields[2] as usize, fields[1])
+    request.fields[0] == 0 && accepts_giver(book, request.fields[2] as usize, request.fields[1])
 }
 
 // The closing day of a record; a return has none.
-pub fn closing_in(kind: u64, fields: &Fields) -> u64
-    ensures { result ≡ closing_in kind fields.now }
+pub fn closing_in(request: &Record) -> u64
+    ensures { result ≡ closing_in (kind_number request.now.kind) request.now.fields }
 {
-    if kind == 6 { fields[6] } else { 0 }
+    match request.kind {
+        Kind::Fop => request.fields[6],
+        _ => 0,
+    }
 }
 
 // Has the row i the record's basket or exposure, amount and days? The amount comes first: it differs most.
-fn has_terms(book: &Book, kind: u64, fields: &Fields, i: usize) -> bool
+fn has_terms(book: &Book, request: &Record, i: usize) -> bool
     requires { i < 256 }
-    ensures { result ≡ same_terms (state book.now) kind fields.now i }
+    ensures { result ≡ same_terms (state book.now) (kind_number request.now.kind) request.now.fields i }
 {
-    if book::get(book, Table::Amounts, i) != fields[4] {
-        return false;
-    }
-    if book::get(book, Table::Settlements, i) != fields[5] {
-        return false;
-    }
-    if book::get(book, Table::BasketsOrExposures, i) != fields[3] {
-        return false;
-    }
-    book::get(book, Table::Closings, i) == closing_in(kind, fields)
+    book::get(book, Table::Amounts, i) == request.fields[4]
+        && book::get(book, Table::Settlements, i) == request.fields[5]
+        && book::get(book, Table::BasketsOrExposures, i) == request.fields[3]
+        && book::get(book, Table::Closings, i) == closing_in(request)
 }
 
 // Is the row i equal to the record in all fields but side and reference, and of the other side?
-fn is_other_side(book: &Book, kind: u64, fields: &Fields, i: usize) -> bool
-    requires { RequestIn fields.now × (i < 256) }
-    ensures { result ≡ other_side (state book.now) kind fields.now i }
+fn is_other_side(book: &Book, request: &Record, i: usize) -> bool
+    requires { RequestIn request.now.fields × (i < 256) }
+    ensures { result ≡ other_side (state book.now) (kind_number request.now.kind) request.now.fields i }
 {
-    if !has_terms(book, kind, fields, i) {
-        return false;
-    }
-    if book::get(book, Table::Givers, i) != fields[1] {
-        return false;
-    }
-    if book::get(book, Table::Takers, i) != fields[2] {
-        return false;
-    }
-    if book::get(book, Table::RequestKinds, i) != kind {
-        return false;
-    }
-    book::get(book, Table::Sides, i) == 1 - fields[0]
+    has_terms(book, request, i)
+        && book::get(book, Table::Givers, i) == request.fields[1]
+        && book::get(book, Table::Takers, i) == request.fields[2]
+        && book::get(book, Table::RequestKinds, i) == u64::from(request.kind)
+        && book::get(book, Table::Sides, i) == 1 - request.fields[0]
 }
 
 // Does the row i hold a live request that is not paired?
@@ -89,98 +79,88 @@ fn is_waiting(book: &Book, i: usize) -> bool
     requires { i < 256 }
     ensures { result ≡ (is_live (state book.now) i && not (is_paired (state book.now) i)) }
 {
-    if book::get(book, Table::Numbers, i) == 0 {
-        return false;
-    }
-    if book::get(book, Table::Partners, i) != 0 {
-        return false;
-    }
-    if book::get(book, Table::Ends, i) != 0 {
-        return false;
-    }
-    book::get(book, Table::SettledAmounts, i) < book::get(book, Table::Amounts, i)
+    book::get(book, Table::Numbers, i) != 0
+        && book::get(book, Table::Partners, i) == 0
+        && book::get(book, Table::Ends, i) == 0
+        && book::get(book, Table::SettledAmounts, i) < book::get(book, Table::Amounts, i)
 }
 
 // May the record pair with the row i?
-fn is_equal(book: &Book, kind: u64, fields: &Fields, i: usize) -> bool
-    requires { RequestIn fields.now × (i < 256) }
-    ensures { result ≡ is_equal (state book.now) kind fields.now i }
+fn is_equal(book: &Book, request: &Record, i: usize) -> bool
+    requires { RequestIn request.now.fields × (i < 256) }
+    ensures { result ≡ is_equal (state book.now) (kind_number request.now.kind) request.now.fields i }
 {
-    if is_other_side(book, kind, fields, i) {
-        is_waiting(book, i)
-    } else {
-        false
-    }
+    is_other_side(book, request, i) && is_waiting(book, i)
 }
 
-// The earlier of the best row so far (256 where there is none) and the row i, where the record may pair with that.
-fn earlier(book: &Book, kind: u64, fields: &Fields, best: usize, i: usize) -> usize
-    requires { RequestIn fields.now × (best ≤ 256) × (i < 256) }
-    ensures { result ≡ earlier_of (state book.now) kind fields.now best i }
+// The earlier of the best row so far and the row i, where the record may pair with that.
+fn earlier(book: &Book, request: &Record, best: Option<usize>, i: usize) -> Option<usize>
+    requires { RequestIn request.now.fields × MatchOption best ⊤ (λ b. b < 256) × (i < 256) }
+    ensures { result ≡ found 256 (earlier_of (state book.now) (kind_number request.now.kind) request.now.fields (unwrap_or best 256) i) }
 {
-    if !is_equal(book, kind, fields, i) {
+    if !is_equal(book, request, i) {
         return best;
     }
-    if best == 256 {
-        return i;
+    match best {
+        Some(b) if book::get(book, Table::Numbers, b) <= book::get(book, Table::Numbers, i) => best,
+        _ => Some(i),
     }
-    if book::get(book, Table::Numbers, i) < book::get(book, Table::Numbers, best) {
-        return i;
-    }
-    best
 }
 
-// The row of the earliest request that the record may pair with: the one with the lowest number; 256 where there is none.
-pub fn earliest_equal(book: &Book, kind: u64, fields: &Fields) -> usize
-    requires { RequestIn fields.now }
-    ensures { result ≡ earliest_equal (state book.now) kind fields.now }
+// The row of the earliest request that the record may pair with: the one with the lowest number.
+pub fn earliest_equal(book: &Book, request: &Record) -> Option<usize>
+    requires { RequestIn request.now.fields }
+    ensures { result ≡ found 256 (earliest_equal (state book.now) (kind_number request.now.kind) request.now.fields) }
 {
-    let mut best: usize = 256;
+    let mut best = None;
     for i in 0..256 {
-        best = earlier(book, kind, fields, best, i);
+        best = earlier(book, request, best, i);
     }
     best
 }
 
-// The lowest request row that is not used, 256 where there is none.
-pub fn free_row(book: &Book) -> usize
-    ensures { result ≡ free_row (state book.now) }
+// The first of a table's rows below n that holds 0.
+fn first_empty(book: &Book, table: Table, n: usize) -> Option<usize>
+    requires { n ≤ rows_of (number table) }
+    ensures { result ≡ found n (first_empty (state book.now) (number table) n) }
 {
-    let mut i: usize = 0;
-    while i < 256 {
-        if book::get(book, Table::Numbers, i) == 0 {
-            return i;
-        }
-        i += 1;
-    }
-    i
+    (0..n).find(|i| book::get(book, table, *i) == 0)
+}
+
+// The lowest request row that is not used.
+pub fn free_row(book: &Book) -> Option<usize>
+    ensures { result ≡ found 256 (free_row (state book.now)) }
+{
+    first_empty(book, Table::Numbers, 256)
 }
 
 // How many request rows are not used.
 pub fn free_rows(book: &Book) -> u64
     ensures { result ≡ rows_free (state book.now) }
 {
-    let mut rows: u64 = 0;
-    for i in 0..256 {
-        if book::get(book, Table::Numbers, i) == 0 {
-            rows += 1;
-        }
-    }
-    rows
+    (0..256)
+        .filter(|i| book::get(book, Table::Numbers, *i) == 0)
+        .count() as u64
 }
 
-// The lowest exposure row that is not used, 64 where there is none.
-pub fn free_exposure(book: &Book) -> usize
-    ensures { result ≡ free_exposure (state book.now) }
+// The lowest exposure row that is not used.
+pub fn free_exposure(book: &Book) -> Option<usize>
+    ensures { result ≡ found 64 (free_exposure (state book.now)) }
 {
-    let mut e: usize = 0;
-    while e < 64 {
-        if book::get(book, Table::InUse, e) == 0 {
-            return e;
-        }
-        e += 1;
-    }
-    e
+    first_empty(book, Table::InUse, 64)
+}
+
+// The used exposure that a FOP belongs to: the one with its key.
+pub fn exposure_of(book: &Book, request: &Record) -> Option<usize>
+    ensures { result ≡ found 64 (exposure_of (state book.now) request.now.fields) }
+{
+    let key = ExposureKey {
+        giver: request.fields[1],
+        taker: request.fields[2],
+        basket: request.fields[3],
+        closing: request.fields[6],
+    };
+    exposure_search::exposure_with(book, key)
 }
 
 // Has the request not ended, or has it settled whole?
@@ -188,10 +168,8 @@ fn is_open_or_whole(book: &Book, i: usize) -> bool
     requires { i < 256 }
     ensures { result ≡ open_or_whole (state book.now) i }
 {
-    if book::get(book, Table::Ends, i) == 0 {
-        return true;
-    }
-    book::get(book, Table::Amounts, i) <= book::get(book, Table::SettledAmounts, i)
+    book::get(book, Table::Ends, i) == 0
+        || book::get(book, Table::Amounts, i) <= book::get(book, Table::SettledAmounts, i)
 }
 
 // Is the participant the request's owner: the giver of side 0, the taker of side 1?
@@ -199,14 +177,11 @@ fn is_owner(book: &Book, i: usize, p: u64) -> bool
     requires { i < 256 }
     ensures { result ≡ is_owner (state book.now) i p }
 {
-    let side = book::get(book, Table::Sides, i);
-    if side == 0 {
-        return book::get(book, Table::Givers, i) == p;
+    match book::get(book, Table::Sides, i) {
+        0 => book::get(book, Table::Givers, i) == p,
+        1 => book::get(book, Table::Takers, i) == p,
+        _ => false,
     }
-    if side == 1 {
-        return book::get(book, Table::Takers, i) == p;
-    }
-    false
 }
 
 // Is the row i the participant's request of that number, live or settled whole?
@@ -215,28 +190,12 @@ fn is_own_request(book: &Book, p: u64, number: u64, i: usize) -> bool
     ensures { result ≡ is_own_request (state book.now) p number i }
 {
     let found = book::get(book, Table::Numbers, i);
-    if found != number {
-        return false;
-    }
-    if found == 0 {
-        return false;
-    }
-    if !is_open_or_whole(book, i) {
-        return false;
-    }
-    is_owner(book, i, p)
+    found == number && found != 0 && is_open_or_whole(book, i) && is_owner(book, i, p)
 }
 
-// The row of the request that a cancel names, 256 where there is none.
-pub fn own_request(book: &Book, p: u64, number: u64) -> usize
-    ensures { result ≡ own_request (state book.now) p number }
+// The row of the request that a cancel names.
+pub fn own_request(book: &Book, p: u64, number: u64) -> Option<usize>
+    ensures { result ≡ found 256 (own_request (state book.now) p number) }
 {
-    let mut i: usize = 0;
-    while i < 256 {
-        if is_own_request(book, p, number, i) {
-            return i;
-        }
-        i += 1;
-    }
-    i
+    (0..256).find(|i| is_own_request(book, p, number, *i))
 }

@@ -6,10 +6,17 @@ use mathlib.Core.List.{List}
 use Prim.Native.Nat.{ℕ, ◌-◌, ◌<◌}
 use native.Mathlib.Omega.{arith}
 use lib.ListN.{get_or}
-use borrow.Author.Tests.{eqb-false, ne_eqb}
+use borrow.Author.Tests.{eqb-false, ne_eqb, lt-ltb}
+use Rattle.std.specs.Prelude.{Option, Some}
+use Rattle.std.specs.Option.{IsSome}
+use Rattle.laws.specs.Search.{found}
+use Rattle.laws.proofs.Found.{found_some}
 use Rattle.laws.proofs.Cases.{clash}
 use Rattle.book.specs.Layout.{next_number, partners}
 use Rattle.book.specs.State.{State}
+use Rattle.record_kinds.specs.Numbered.{kind_number}
+use Rattle.record_kinds.specs.declared.Kind.{Kind}
+use Rattle.record_kinds.specs.declared.Kind.TheVariants.{Fop, Return}
 use Rattle.records.specs.Writing.{are_legal}
 use Rattle.facts.specs.Good.{Sound}
 use Rattle.facts.proofs.Written.{sound_facts}
@@ -43,38 +50,45 @@ module _ (s : State) (r : List ℕ) (sound-now : sound s ≡ true) where
         exposure = exposure;
       }
 
-  pub fop_room : are_legal 6 r ≡ true → lowest (fop_rules s r) ≡ 0 → Room s 6 r
-  fop_room legal h = room_of 6 (fop_enough s r legal h) (λ needs. (free_exposure_lem s (fop_exposure s r legal h needs)).0)
+  fop_case : are_legal 6 r ≡ true → lowest (fop_rules s r) ≡ 0 → Room s 6 r
+  fop_case legal h = room_of 6 (fop_enough s r legal h) (λ needs. (free_exposure_lem s (fop_exposure s r legal h needs)).0)
 
-  pub return_room : are_legal 7 r ≡ true → lowest (return_rules s r) ≡ 0 → Room s 7 r
-  return_room legal h = room_of 7 (return_enough s r legal h) (λ e. clash e refl)
+  return_case : are_legal 7 r ≡ true → lowest (return_rules s r) ≡ 0 → Room s 7 r
+  return_case legal h = room_of 7 (return_enough s r legal h) (λ e. clash e refl)
+
+  module _ {kind : Kind} where
+    pub fop_room : kind ≡ Fop → are_legal (kind_number kind) r ≡ true → lowest (fop_rules s r) ≡ 0 → Room s (kind_number kind) r
+    fop_room k legal h = rw k (fop_case (rw k at legal) h)
+
+    pub return_room : kind ≡ Return → are_legal (kind_number kind) r ≡ true → lowest (return_rules s r) ≡ 0 → Room s (kind_number kind) r
+    return_room k legal h = rw k (return_case (rw k at legal) h)
 
   -- the request that a cancel names
   abbrev row : ℕ
   row = own_request s (get_or r 0 0) (get_or r 1 0)
-
-  pub own_below : {i : ℕ} → i ≡ row → (i ≡ 256 → ⊥) → i < 256
-  own_below iq n = rw iq (own_used s (get_or r 0 0) (get_or r 1 0) (rw iq at n)).0
 
   module _ (h : lowest (cancel_rules s r) ≡ 0) where
     own : (row < 256) × (is_used s row ≡ true)
     unfolding cancel_rules
     own = own_used s (get_or r 0 0) (get_or r 1 0) (eqb-false row 256 (no_rule (cancel_rules s r) refl h 1))
 
-    pub cancel_below : {i : ℕ} → i ≡ row → i < 256
-    cancel_below iq = rw iq own.0
+    module _ {o : Option ℕ} (oq : o ≡ found 256 row) where
+      pub some_own : IsSome o
+      some_own = rw (oq, lt-ltb row 256 own.0)
 
-    pub cancel_pair : {i p : ℕ} → i ≡ row → p ≡ s partners i → (p ≡ 0 → ⊥) → PairIn s i (p - 1)
-    cancel_pair {i} {p} iq pq n =
-        let used : is_used s i ≡ true = rw iq own.1 in
-        let sound-row = facts.row i (cancel_below iq) in
-        let parties = (used_fields s i sound-row used).parties in
-        let paired : is_paired s i ≡ true = rw (ne_eqb (s partners i) 0 (λ z. n (pq ∙ z))) in
-        let same : p - 1 ≡ partner_of s i = ap (λ (x : ℕ). x - 1) pq in
-        record {
-          row = cancel_below iq;
-          giver = parties.giver_below;
-          taker = parties.taker_below;
-          partner = same;
-          partner_row = rw same (used_paired s i sound-row used paired).pair.partner_below;
-        }
+      pub cancel_pair : {i p : ℕ} → o ≡ Some i → p ≡ s partners i → (p ≡ 0 → ⊥) → PairIn s i (p - 1)
+      cancel_pair {i} {p} is pq n =
+          let which = found_some 256 row oq is in
+          let below : i < 256 = omega (which.0, which.1, arith) in
+          let used : is_used s i ≡ true = rw which.0 own.1 in
+          let sound-row = facts.row i below in
+          let parties = (used_fields s i sound-row used).parties in
+          let paired : is_paired s i ≡ true = rw (ne_eqb (s partners i) 0 (λ z. n (pq ∙ z))) in
+          let same : p - 1 ≡ partner_of s i = ap (λ (x : ℕ). x - 1) pq in
+          record {
+            row = below;
+            giver = parties.giver_below;
+            taker = parties.taker_below;
+            partner = same;
+            partner_row = rw same (used_paired s i sound-row used paired).pair.partner_below;
+          }

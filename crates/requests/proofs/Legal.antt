@@ -7,6 +7,9 @@ use Prim.Native.Nat.{ℕ, ◌≤◌, ◌<◌}
 use native.Mathlib.Omega.{arith}
 use lib.ListN.{get_or}
 use Rattle.record_kinds.specs.Kinds.{kinds}
+use Rattle.record_kinds.specs.Numbered.{kind_number}
+use Rattle.record_kinds.specs.declared.Kind.{Kind}
+use Rattle.record_kinds.specs.declared.Kind.TheVariants.{Fop, Return, Cancel}
 use Rattle.records.specs.Writing.{are_legal}
 use Rattle.rules.specs.Fields.{basket_or_exposure_in}
 use Rattle.facts.proofs.Ranges.{field_in_lem}
@@ -14,7 +17,7 @@ use Rattle.request_search.specs.Ranges.{RequestIn}
 use Rattle.request_rows.specs.Rows.{EntryIn}
 
 module _ (r : List ℕ) where
-  pub fop_in_lem : are_legal 6 r ≡ true → EntryIn 6 r
+  fop_in_lem : are_legal 6 r ≡ true → EntryIn 6 r
   unfolding kinds
   fop_in_lem h =
       let basket : get_or r 3 0 ≤ 15 = (field_in_lem 6 3 r h (omega arith)).1 in
@@ -33,14 +36,11 @@ module _ (r : List ℕ) where
         reference = (field_in_lem 6 7 r h (omega arith)).1;
       }
 
-  pub fop_fields : are_legal 6 r ≡ true → RequestIn r
-  fop_fields h = (fop_in_lem h).fields
-
-  pub basket_in_lem : are_legal 6 r ≡ true → basket_or_exposure_in r < 16
+  basket_lem : are_legal 6 r ≡ true → basket_or_exposure_in r < 16
   unfolding kinds
-  basket_in_lem h = omega (arith, (field_in_lem 6 3 r h (omega arith)).1)
+  basket_lem h = omega (arith, (field_in_lem 6 3 r h (omega arith)).1)
 
-  pub return_in_lem : are_legal 7 r ≡ true → EntryIn 7 r
+  return_in_lem : are_legal 7 r ≡ true → EntryIn 7 r
   unfolding kinds
   return_in_lem h =
       record {
@@ -58,9 +58,28 @@ module _ (r : List ℕ) where
         reference = (field_in_lem 7 6 r h (omega arith)).1;
       }
 
-  pub return_fields : are_legal 7 r ≡ true → RequestIn r
-  return_fields h = (return_in_lem h).fields
-
-  pub owner_in : are_legal 8 r ≡ true → get_or r 0 0 ≤ 31
+  owner_lem : are_legal 8 r ≡ true → get_or r 0 0 < 32
   unfolding kinds
-  owner_in h = (field_in_lem 8 0 r h (omega arith)).1
+  owner_lem h = omega (arith, (field_in_lem 8 0 r h (omega arith)).1)
+
+  -- by the kind's name
+  module _ {kind : Kind} where
+    module _ (k : kind ≡ Fop) (legal : are_legal (kind_number kind) r ≡ true) where
+      pub fop_entry : EntryIn (kind_number kind) r
+      fop_entry = rw k (fop_in_lem (rw k at legal))
+
+      pub fop_fields : RequestIn r
+      fop_fields = fop_entry.fields
+
+      pub basket_below : basket_or_exposure_in r < 16
+      basket_below = basket_lem (rw k at legal)
+
+    module _ (k : kind ≡ Return) (legal : are_legal (kind_number kind) r ≡ true) where
+      pub return_entry : EntryIn (kind_number kind) r
+      return_entry = rw k (return_in_lem (rw k at legal))
+
+      pub return_fields : RequestIn r
+      return_fields = return_entry.fields
+
+    pub owner_below : kind ≡ Cancel → are_legal (kind_number kind) r ≡ true → get_or r 0 0 < 32
+    owner_below k legal = owner_lem (rw k at legal)

@@ -1,4 +1,4 @@
-pub mod CodeReturns
 pub mod Legal
-pub mod Capacity
-pub mod StepReturns
+mod Capacity
+mod Codes
+mod Steps

@@ -2,10 +2,11 @@
 // step of an accepted record. Equal requests pair earliest first (`request_search::earliest_equal`).
 #![tactic(auto)]
 
-ghost use Rattle.std.specs.Prelude.{◌≡◌, true, length};
-ghost use Rattle.book.specs.Layout.{book_length};
+ghost use Rattle.std.specs.Prelude.{◌≡◌, true};
+ghost use Rattle.answers.specs.Refusals.{outcome_code};
 ghost use Rattle.book.specs.State.{state};
-ghost use Rattle.records.specs.Writing.{are_legal};
+ghost use Rattle.record_kinds.specs.Numbered.{kind_number};
+ghost use Rattle.record_kinds.specs.declared.Kind.TheVariants.{Fop, Return, Cancel};
 ghost use Rattle.rules.specs.Codes.{fop_rules, return_rules, cancel_rules};
 ghost use Rattle.rules.specs.Outcome.{lowest};
 ghost use Rattle.rules.specs.Requesting.{pair_ends, entered, cancelled};
@@ -14,87 +15,71 @@ ghost use Rattle.totals.specs.Totals.{totals_of};
 ghost use Rattle.request_rows.specs.Rows.{EntryIn};
 ghost use Rattle.requests.specs.Steps.{cancelled_pair, Entered, Room, PairIn};
 
+use answers::Refusal;
 use book::Book;
 use book::layout::Table;
-use record_kinds::Fields;
+use records::record::Record;
 use totals::Totals;
 
 // 6: the code of a FOP.
-pub fn fop_code(book: &Book, fields: &Fields) -> u64
-    requires { (are_legal 6 fields.now ≡ true) × (sound (state book.now) ≡ true) }
-    ensures { result ≡ lowest (fop_rules (state book.now) fields.now) }
+#[tactic(auto, using(crate::proofs::Legal::fop_fields), unfolding(rules::specs::Codes::fop_rules))]
+pub fn check_fop(book: &Book, fop: &Record) -> Result<(), Refusal>
+    requires { (fop.now.kind ≡ Fop) × (sound (state book.now) ≡ true) }
+    ensures { outcome_code result ≡ lowest (fop_rules (state book.now) fop.now.fields) }
 {
-    if fields[4] < book::get(book, Table::Tolerance, 0) {
-        return 4;
+    if fop.fields[4] < book::get(book, Table::Tolerance, 0) {
+        return Err(Refusal::OutOfRange);
     }
-    let name = request_codes::fop_name_code(book, fields);
-    if name != 0 {
-        return name;
-    }
-    let taker = request_codes::taker_code(book, fields);
-    if taker != 0 {
-        return taker;
-    }
-    let row = request_codes::row_code(book, fields);
-    if row != 0 {
-        return row;
-    }
-    request_codes::exposure_code(book, fields)
+    request_codes::check_fop_names(book, fop)?;
+    request_codes::check_taker(book, fop)?;
+    request_codes::check_rows(book, fop)?;
+    request_codes::check_exposure(book, fop)
 }
 
 // 7: the code of a return.
-pub fn return_code(book: &Book, fields: &Fields) -> u64
-    requires { (are_legal 7 fields.now ≡ true) × (sound (state book.now) ≡ true) }
-    ensures { result ≡ lowest (return_rules (state book.now) fields.now) }
+#[tactic(auto, using(crate::proofs::Legal::return_fields), unfolding(rules::specs::Codes::return_rules))]
+pub fn check_return(book: &Book, back: &Record) -> Result<(), Refusal>
+    requires { (back.now.kind ≡ Return) × (sound (state book.now) ≡ true) }
+    ensures { outcome_code result ≡ lowest (return_rules (state book.now) back.now.fields) }
 {
-    let party = request_codes::party_code(book, fields);
-    if party != 0 {
-        return party;
+    request_codes::check_parties(book, back)?;
+    request_codes::check_settlement(book, back)?;
+    request_codes::check_taker(book, back)?;
+    if !request_codes::names_exposure(book, back) {
+        return Err(Refusal::NoneSuch);
     }
-    let settlement = request_codes::settlement_code(book, fields);
-    if settlement != 0 {
-        return settlement;
-    }
-    let taker = request_codes::taker_code(book, fields);
-    if taker != 0 {
-        return taker;
-    }
-    if !request_codes::names_exposure(book, fields) {
-        return 12;
-    }
-    request_codes::row_code(book, fields)
+    request_codes::check_rows(book, back)
 }
 
 // Enters a request's rows, paired with the taker request made for it, or with the earliest equal one, or left to wait. The number of the
 // request that it is paired with, 0 where it waits.
-fn enter_rows(book: &mut Book, kind: u64, fields: &Fields) -> u64
-    requires { EntryIn kind fields.now × Room (state book.old) kind fields.now }
-    ensures { Entered (state book.old) kind fields.now result (state book.new) }
+fn enter_rows(book: &mut Book, request: &Record) -> u64
+    requires { EntryIn (kind_number request.now.kind) request.now.fields × Room (state book.old) (kind_number request.now.kind) request.now.fields }
+    ensures { Entered (state book.old) (kind_number request.now.kind) request.now.fields result (state book.new) }
 {
-    if request_search::does_taker_follow(book, fields) {
+    if request_search::does_taker_follow(book, request) {
         let number = book::get(book, Table::NextNumber, 0);
-        request_entry::enter_with_taker(book, kind, fields);
-        request_entry::join_exposure(book, kind, fields);
+        request_entry::enter_with_taker(book, request);
+        request_entry::join_exposure(book, request);
         return number + 1;
     }
-    let j = request_search::earliest_equal(book, kind, fields);
-    if 256 <= j {
-        request_entry::enter_waiting(book, kind, fields);
+    let Some(j) = request_search::earliest_equal(book, request) else {
+        request_entry::enter_waiting(book, request);
         return 0;
-    }
+    };
     let partner = book::get(book, Table::Numbers, j);
-    request_entry::enter_with_equal(book, kind, fields, j);
-    request_entry::join_exposure(book, kind, fields);
+    request_entry::enter_with_equal(book, request, j);
+    request_entry::join_exposure(book, request);
     partner
 }
 
 // 6 and 7: enters a request, which gets the next number.
-fn enter(book: &mut Book, kind: u64, fields: &Fields) -> Totals
-    requires { EntryIn kind fields.now × Room (state book.old) kind fields.now }
-    ensures { (result ≡ totals_of (entered (state book.old) kind fields.now)) × (state book.new ≡ (entered (state book.old) kind fields.now).state) }
+fn enter(book: &mut Book, request: &Record) -> Totals
+    requires { EntryIn (kind_number request.now.kind) request.now.fields × Room (state book.old) (kind_number request.now.kind) request.now.fields }
+    ensures { (result ≡ totals_of (entered (state book.old) (kind_number request.now.kind) request.now.fields)) × (state book.new ≡ (entered (state book.old) (kind_number request.now.kind) request.now.fields).state) }
 {
     let number = book::get(book, Table::NextNumber, 0);
-    let partner = enter_rows(book, kind, fields);
+    let partner = enter_rows(book, request);
     Totals {
         a: number,
         b: partner,
@@ -103,37 +88,38 @@ fn enter(book: &mut Book, kind: u64, fields: &Fields) -> Totals
 }
 
 // 6: enters a FOP.
-pub fn enter_fop(book: &mut Book, fields: &Fields) -> Totals
-    requires { (are_legal 6 fields.now ≡ true) × (sound (state book.old) ≡ true) × (lowest (fop_rules (state book.old) fields.now) ≡ 0) }
-    ensures { (result ≡ totals_of (entered (state book.old) 6 fields.now)) × (state book.new ≡ (entered (state book.old) 6 fields.now).state) }
+pub fn enter_fop(book: &mut Book, fop: &Record) -> Totals
+    requires { (fop.now.kind ≡ Fop) × (sound (state book.old) ≡ true) × (lowest (fop_rules (state book.old) fop.now.fields) ≡ 0) }
+    ensures { (result ≡ totals_of (entered (state book.old) 6 fop.now.fields)) × (state book.new ≡ (entered (state book.old) 6 fop.now.fields).state) }
 {
-    enter(book, 6, fields)
+    enter(book, fop)
 }
 
 // 7: enters a return.
-pub fn enter_return(book: &mut Book, fields: &Fields) -> Totals
-    requires { (are_legal 7 fields.now ≡ true) × (sound (state book.old) ≡ true) × (lowest (return_rules (state book.old) fields.now) ≡ 0) }
-    ensures { (result ≡ totals_of (entered (state book.old) 7 fields.now)) × (state book.new ≡ (entered (state book.old) 7 fields.now).state) }
+pub fn enter_return(book: &mut Book, back: &Record) -> Totals
+    requires { (back.now.kind ≡ Return) × (sound (state book.old) ≡ true) × (lowest (return_rules (state book.old) back.now.fields) ≡ 0) }
+    ensures { (result ≡ totals_of (entered (state book.old) 7 back.now.fields)) × (state book.new ≡ (entered (state book.old) 7 back.now.fields).state) }
 {
-    enter(book, 7, fields)
+    enter(book, back)
 }
 
 // 8: the code of a cancel.
-pub fn cancel_code(book: &Book, fields: &Fields) -> u64
-    requires { (are_legal 8 fields.now ≡ true) × (sound (state book.now) ≡ true) }
-    ensures { result ≡ lowest (cancel_rules (state book.now) fields.now) }
+#[tactic(auto, using(crate::proofs::Legal::owner_below), unfolding(rules::specs::Codes::cancel_rules))]
+pub fn check_cancel(book: &Book, cancel: &Record) -> Result<(), Refusal>
+    requires { (cancel.now.kind ≡ Cancel) × (sound (state book.now) ≡ true) }
+    ensures { outcome_code result ≡ lowest (cancel_rules (state book.now) cancel.now.fields) }
 {
-    if book::get(book, Table::Modes, fields[0] as usize) == 0 {
-        return 5;
+    let owner = cancel.fields[0];
+    if book::get(book, Table::Modes, owner as usize) == 0 {
+        return Err(Refusal::NotSetUp);
     }
-    let i = request_search::own_request(book, fields[0], fields[1]);
-    if i == 256 {
-        return 12;
-    }
+    let Some(i) = request_search::own_request(book, owner, cancel.fields[1]) else {
+        return Err(Refusal::NoneSuch);
+    };
     if book::get(book, Table::SettledAmounts, i) != 0 {
-        return 13;
+        return Err(Refusal::Settled);
     }
-    0
+    Ok(())
 }
 
 // Does a paired request end, with its partner, when its owner cancels it?
@@ -141,17 +127,11 @@ fn does_pair_end(book: &Book, i: usize, j: usize) -> bool
     requires { PairIn (state book.now) i j }
     ensures { result ≡ pair_ends (state book.now) i }
 {
-    if book::get(book, Table::Cancels, j) == 1 {
-        return true;
-    }
-    if book::get(book, Table::Sides, i) != 0 {
-        return false;
-    }
-    request_search::accepts_giver(
-        book,
-        book::get(book, Table::Takers, i) as usize,
-        book::get(book, Table::Givers, i),
-    )
+    let taker = book::get(book, Table::Takers, i) as usize;
+    let giver = book::get(book, Table::Givers, i);
+    book::get(book, Table::Cancels, j) == 1
+        || book::get(book, Table::Sides, i) == 0
+            && request_search::accepts_giver(book, taker, giver)
 }
 
 // Notes the cancel of a paired request by its owner, and ends the pair where that is enough.
@@ -168,11 +148,11 @@ fn cancel_paired(book: &mut Book, i: usize, j: usize)
 }
 
 // 8: cancels a request of its owner.
-pub fn cancel(book: &mut Book, fields: &Fields) -> Totals
-    requires { (are_legal 8 fields.now ≡ true) × (sound (state book.old) ≡ true) × (lowest (cancel_rules (state book.old) fields.now) ≡ 0) }
-    ensures { (result ≡ totals_of (cancelled (state book.old) fields.now)) × (state book.new ≡ (cancelled (state book.old) fields.now).state) }
+pub fn cancel(book: &mut Book, cancel: &Record) -> Totals
+    requires { (cancel.now.kind ≡ Cancel) × (sound (state book.old) ≡ true) × (lowest (cancel_rules (state book.old) cancel.now.fields) ≡ 0) }
+    ensures { (result ≡ totals_of (cancelled (state book.old) cancel.now.fields)) × (state book.new ≡ (cancelled (state book.old) cancel.now.fields).state) }
 {
-    let i = request_search::own_request(book, fields[0], fields[1]);
+    let i = request_search::own_request(book, cancel.fields[0], cancel.fields[1]).unwrap();
     let partner = book::get(book, Table::Partners, i);
     if partner == 0 {
         book::set(book, Table::Ends, i, 1);

@@ -1,20 +1,11 @@
 -- `requests::cancel` meets its contract.
 -- Assumes nothing.
-use Prim.Native.Nat.{◌<◌}
-use Rattle.requests.proofs.Capacity.{cancel_below, cancel_pair}
-use Rattle.requests.proofs.StepReturns.{cancelled_silent, cancelled_alone, cancelled_paired}
-use borrow.Author.Rules.{rules}
+use Rattle.requests.proofs.Capacity.{some_own, cancel_pair}
+use Rattle.requests.proofs.Steps.{cancelled_silent, cancelled_alone, cancelled_paired}
 use Rattle.requests.proofs.cancel.Goals as goal
 
-pub get-partner-requires : goal.get-partner-requires
-get-partner-requires c =
-    let near : c.own_request-i.result < 256 = search cancel_below in
-    search rules
-
-pub set-requires : goal.set-requires
-set-requires c =
-    let near : c.own_request-i.result < 256 = search cancel_below in
-    search rules
+pub unwrap-i-requires : goal.unwrap-i-requires
+unwrap-i-requires c = search some_own
 
 pub cancel_paired-requires : goal.cancel_paired-requires
 cancel_paired-requires c = search cancel_pair

@@ -1,7 +1,7 @@
 -- `requests::enter` meets its contract.
 -- Assumes nothing.
-use Rattle.requests.proofs.StepReturns.{entered_totals}
 use borrow.Author.Rules.{rules}
+use Rattle.requests.proofs.Steps.{entered_totals}
 use Rattle.requests.proofs.enter.Goals as goal
 
 pub returns : goal.returns
