@@ -34,7 +34,7 @@ fn order_of(book: &Book, i: usize) -> u64
     book::get(book, Table::Settlements, i) * 4294967296 + book::get(book, Table::Numbers, i)
 }
 
-// Is the row the later request of a live pair that is due?
+// Is the row the later request of a live pair that is due? Guard by guard: at the joins of one long `&&` the facts of each test are lost.
 fn is_due_pair(book: &Book, i: usize) -> bool
     requires { Good (state book.now) × (i < 256) }
     ensures { result ≡ is_due (state book.now) i }
