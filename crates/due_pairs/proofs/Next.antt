@@ -1,75 +1,107 @@
 -- The least of the keys of the rows that are due, from a bound on, is that of the first row left of the list.
 -- Assumes nothing.
-use mathlib.Core.Path.{◌≡◌, refl, ◌∙◌}
-use mathlib.Core.Bool.{Bool, true, false, ◌&&◌}
-use mathlib.Core.List.{List, [], ◌∷◌}
+use mathlib.Core.Path.{◌≡◌, refl, sym, ap, ◌∙◌}
+use mathlib.Core.Bool.{Bool, true, false}
+use mathlib.Core.List.{List, [], ◌∷◌, ◌++◌, append-nil}
 use mathlib.Core.Logic.{inl, inr, ⊎_elim}
-use Prim.Native.Nat.{ℕ, zero, suc, ◌+◌, ◌*◌, ◌/◌, ◌%◌, ◌≤◌, ◌<◌}
+use Prim.Native.Nat.{ℕ, zero, suc, ◌+◌, ◌*◌, ◌/◌, ◌%◌, ◌≤◌, ◌<◌, min}
 use native.Mathlib.Decide.{ℕ_discrete}
 use native.Mathlib.Omega.{arith}
-use lib.Dec.{leb, ltb}
+use lib.Dec.{leb}
 use lib.ListN.{take}
-use borrow.Author.Tests.{leb-true, ltb-false, ltb-true}
-use Rattle.laws.proofs.Cases.{either, and_left, and_right}
+use borrow.Author.Tests.{leb-true, le-leb, leb-false}
+use Rattle.std.specs.Prelude.{Option, Some, None}
+use Rattle.std.specs.List.{filter, fold, reduce}
+use Rattle.std.proofs.lemmas.List.Elements.{filter-append}
+use Rattle.laws.proofs.Cases.{either}
 use Rattle.laws.proofs.Lists.{In, Sorted}
 use Rattle.book.specs.State.{State}
 use Rattle.facts.specs.Good.{Good}
-use Rattle.due_pairs.specs.Due.{due_of, order_of, key_of, no_key, keys_of, Collected, lesser_from, least_from}
-use Rattle.due_pairs.proofs.Keys.{is_lesser, not_lesser, least_one, due_small}
+use Rattle.due_pairs.specs.Due.{due_of, order_of, key_of, keys_of, Collected, least_from}
+use Rattle.due_pairs.specs.declared.DueKeys.{DueKeys}
+use Rattle.due_pairs.proofs.Keys.{due_small}
 
--- the lesser of two from a bound on
-module _ (bound least key : ℕ) where
-  lesser_holds : (P : ℕ → Type 0) → P least → (bound ≤ key → key < least → P key) → P (lesser_from bound least key)
-  unfolding lesser_from
-  lesser_holds P p q =
-      ⊎_elim
-      (λ h. rw h (q (leb-true bound key (and_left _ (ltb key least) h)) (ltb-true key least (and_right (leb bound key) _ h))))
-      (λ h. rw h p)
-      (either (leb bound key && ltb key least))
+-- the lesser of a key that may be there and another
+abbrev lesser : Option ℕ → ℕ → ℕ
+lesser None key = key
+lesser (Some found) key = min found key
 
-  lesser_le : bound ≤ key → lesser_from bound least key ≤ key
-  lesser_le h =
-      ⊎_elim
-      (λ l. omega (arith, is_lesser bound least key h (ltb-true key least l)))
-      (λ l. omega (arith, ltb-false key least l, not_lesser bound least key h (ltb-false key least l)))
-      (either (ltb key least))
+lesser_holds : (P : ℕ → Type 0) (found : Option ℕ) (key : ℕ) → ((k : ℕ) → found ≡ Some k → P k) → P key → P (lesser found key)
+lesser_holds P None key h p = p
+lesser_holds P (Some m) key h p =
+    ⊎_elim
+    (λ e. let l = leb-true m key e in let q : min m key ≡ m = omega arith in rw q (h m refl))
+    (λ e. let l = leb-false m key e in let q : min m key ≡ key = omega arith in rw q p)
+    (either (leb m key))
 
--- for any test and order: the least is none or the key of one that passes, from the bound on, and at most that of each such
+lesser_le : (found : Option ℕ) (key : ℕ) → lesser found key ≤ key
+lesser_le None key = omega arith
+lesser_le (Some m) key = omega arith
+
+-- one key more, at the end
+fold_last : (x : ℕ) (xs : List ℕ) (key : ℕ) → fold min x (xs ++ (key ∷ [])) ≡ min (fold min x xs) key
+fold_last x [] key = refl
+fold_last x (y ∷ xs) key = fold_last (min x y) xs key
+
+reduce_last : (xs : List ℕ) (key : ℕ) → reduce min (xs ++ (key ∷ [])) ≡ Some (lesser (reduce min xs) key)
+reduce_last [] key = refl
+reduce_last (x ∷ xs) key = ap Some (fold_last x xs key)
+
+some_same : {x y : ℕ} → Some x ≡ Some y → x ≡ y
+some_same e = cc
+
+-- for any test and order: the least is the key of a row that passes, from the bound on, and at most that of each such
 module _ (t : ℕ → Bool) (order : ℕ → ℕ) (bound : ℕ) where
-  abbrev least_of : ℕ → ℕ
-  least_of n = least_from bound no_key (keys_of t order n)
+  abbrev least_of : ℕ → Option ℕ
+  least_of n = least_from bound (keys_of t order n)
 
-  one_hit : (n : ℕ) → t n ≡ true → least_of (suc n) ≡ lesser_from bound (least_of n) (key_of (order n) n)
+  one_hit : (n : ℕ) → t n ≡ true → bound ≤ key_of (order n) n → least_of (suc n) ≡ Some (lesser (least_of n) (key_of (order n) n))
   unfolding keys_of
-  one_hit n p = rw p (least_one bound no_key (keys_of t order n) (key_of (order n) n))
+  one_hit n p l =
+      rw (p, filter-append (leb bound) (keys_of t order n) (key_of (order n) n ∷ []), le-leb bound (key_of (order n) n) l)
+      (reduce_last (filter (leb bound) (keys_of t order n)) (key_of (order n) n))
+
+  one_low : (n : ℕ) → t n ≡ true → leb bound (key_of (order n) n) ≡ false → least_of (suc n) ≡ least_of n
+  unfolding keys_of
+  one_low n p l =
+      rw (p, filter-append (leb bound) (keys_of t order n) (key_of (order n) n ∷ []), l, append-nil (filter (leb bound) (keys_of t order n)))
 
   one_miss : (n : ℕ) → t n ≡ false → least_of (suc n) ≡ least_of n
   unfolding keys_of
   one_miss n p = rw p
 
-  least_holds : (P : ℕ → Type 0) (n : ℕ) → P no_key → ((i : ℕ) → i < n → t i ≡ true → bound ≤ key_of (order i) i → P (key_of (order i) i)) → P (least_of n)
-  unfolding keys_of least_from
-  least_holds P zero p h = p
-  least_holds P (suc n) p h =
-      let before = least_holds P n p (λ i l. h i (omega arith)) in
+  no_row : (k : ℕ) → least_of 0 ≡ Some k → ⊥
+  unfolding keys_of
+  no_row k e = cc
+
+  -- one row more: the least of before, or the lesser of it and the new key
+  one_more : (Q : Option ℕ → Type 0) (n : ℕ) → Q (least_of n) → (t n ≡ true → bound ≤ key_of (order n) n → Q (Some (lesser (least_of n) (key_of (order n) n)))) → Q (least_of (suc n))
+  one_more Q n before hit =
       ⊎_elim
-      (λ q. rw (one_hit n q) (lesser_holds bound (least_of n) (key_of (order n) n) P before (λ m k. h n (omega arith) q m)))
-      (λ q. rw (one_miss n q) before)
+      (λ p. ⊎_elim
+      (λ e. let l = leb-true bound (key_of (order n) n) e in rw (one_hit n p l) (hit p l))
+      (λ e. rw (one_low n p e) before)
+      (either (leb bound (key_of (order n) n))))
+      (λ p. rw (one_miss n p) before)
       (either (t n))
 
-  least_le : (n i : ℕ) → i < n → t i ≡ true → bound ≤ key_of (order i) i → least_of n ≤ key_of (order i) i
+  least_holds : (P : ℕ → Type 0) (n : ℕ) → ((i : ℕ) → i < n → t i ≡ true → bound ≤ key_of (order i) i → P (key_of (order i) i)) → (k : ℕ) → least_of n ≡ Some k → P k
+  least_holds P zero h = λ k e. absurd (no_row k e)
+  least_holds P (suc n) h =
+      let before = least_holds P n (λ i l. h i (omega arith)) in
+      one_more (λ o. (k : ℕ) → o ≡ Some k → P k) n before
+      (λ p l k e. rw (← some_same e) (lesser_holds P (least_of n) (key_of (order n) n) before (h n (omega arith) p l)))
+
+  least_le : (n i : ℕ) → i < n → t i ≡ true → bound ≤ key_of (order i) i → (k : ℕ) × (least_of n ≡ Some k) × (k ≤ key_of (order i) i)
   least_le zero i l p h = absurd (omega arith)
   least_le (suc n) i l p h =
       let before = least_le n i in
-      let old = least_of n in
       elim (ℕ_discrete i n) [
-        | yes e ↦ rw (e, one_hit n (rw e at p)) (lesser_le bound old (key_of (order n) n) (rw e at h))
+        | yes e ↦ rw e (_, one_hit n (rw e at p) (rw e at h), lesser_le (least_of n) (key_of (order n) n))
         | no d ↦
-            let earlier = before (omega arith) p h in
-            ⊎_elim
-            (λ q. rw (one_hit n q) (lesser_holds bound old (key_of (order n) n) (λ r. r ≤ key_of (order i) i) earlier (λ m k. omega arith)))
-            (λ q. rw (one_miss n q) earlier)
-            (either (t n))
+            let b = before (omega arith) p h in
+            one_more (λ o. (k : ℕ) × (o ≡ Some k) × (k ≤ key_of (order i) i)) n b
+            (λ q m. (_, refl, rw b.1 (let k = b.2 in omega arith)))
       ]
 
 -- what is left of the rows that are due, after a place in the order: all of them, no other, and in their order
@@ -85,12 +117,12 @@ ahead_next {s} {kind} {last} {i} {rows} a = record {
   sorted = a.sorted.1;
 }
 
-module _ {s : State} {kind : ℕ} (last : ℕ) (g : Good s) {keys : List ℕ} {n : ℕ} (c : Collected s kind 256 keys n) {r : ℕ} (q : r ≡ least_from ((last + 1) * 256) no_key (take n keys)) where
-  least : r ≡ least_of (due_of s kind) (order_of s) ((last + 1) * 256) 256
-  least = rw c.all at q
+module _ {s : State} {kind : ℕ} (last : ℕ) (g : Good s) {due : DueKeys} (c : Collected s kind 256 due) where
+  least : least_from ((last + 1) * 256) (take due.count due.keys) ≡ least_of (due_of s kind) (order_of s) ((last + 1) * 256) 256
+  least = rw c.all
 
-  pub none_left : Ahead s kind last [] → r ≡ no_key
-  none_left a = least ∙ least_holds (due_of s kind) (order_of s) ((last + 1) * 256) (λ x. x ≡ no_key) 256 refl (λ i l d h. absurd (a.all i l d (omega arith)))
+  pub none_left : Ahead s kind last [] → {k : ℕ} → Some k ≡ least_from ((last + 1) * 256) (take due.count due.keys) → ⊥
+  none_left a {k} q = least_holds (due_of s kind) (order_of s) ((last + 1) * 256) (λ x. ⊥) 256 (λ i l d h. a.all i l d (omega arith)) k (sym (q ∙ least))
 
   module _ {i : ℕ} {rows : List ℕ} (a : Ahead s kind last (i ∷ rows)) where
     own : (i < 256) × (due_of s kind i ≡ true) × (last < order_of s i)
@@ -99,23 +131,30 @@ module _ {s : State} {kind : ℕ} (last : ℕ) (g : Good s) {keys : List ℕ} {n
     small : order_of s i < 72057594037927935
     small = due_small s kind i g own.0 own.1
 
-    first_key : r ≡ key_of (order_of s i) i
-    first_key =
-        let t = due_of s kind in
-        let bound = (last + 1) * 256 in
-        let key = key_of (order_of s i) i in
-        let low = least_holds t (order_of s) bound (λ x. key ≤ x) 256 (omega (arith, small, own.0)) (λ j l d h.
-        ⊎_elim (λ e. rw e (omega arith)) (λ k. omega (arith, a.sorted.0 j k, own.0)) (a.all j l d (omega arith))) in
-        omega (arith, least, low, least_le t (order_of s) bound 256 i own.0 own.1 (omega (arith, own.2)))
+    lowest_key : (k : ℕ) × (least_of (due_of s kind) (order_of s) ((last + 1) * 256) 256 ≡ Some k) × (k ≤ key_of (order_of s i) i)
+    lowest_key = least_le (due_of s kind) (order_of s) ((last + 1) * 256) 256 i own.0 own.1 (omega (arith, own.2))
 
-    pub some_left : r ≡ no_key → ⊥
-    some_left z = omega (arith, first_key, small, own.0)
+    pub some_left : None ≡ least_from ((last + 1) * 256) (take due.count due.keys) → ⊥
+    some_left q = let e : None ≡ Some lowest_key.0 = q ∙ least ∙ lowest_key.1 in cc
 
-    pub next_row : r % 256 ≡ i
-    next_row = omega (arith, first_key, own.0)
+    module _ {k : ℕ} (q : Some k ≡ least_from ((last + 1) * 256) (take due.count due.keys)) where
+      first_key : k ≡ key_of (order_of s i) i
+      first_key =
+          let t = due_of s kind in
+          let key = key_of (order_of s i) i in
+          let low : key ≤ k = least_holds t (order_of s) ((last + 1) * 256) (λ x. key ≤ x) 256 (λ j l d h.
+          ⊎_elim (λ e. rw e (omega arith)) (λ m. omega (arith, a.sorted.0 j m, own.0)) (a.all j l d (omega arith))) k (sym (q ∙ least)) in
+          let same : k ≡ lowest_key.0 = some_same (q ∙ least ∙ lowest_key.1) in
+          omega (arith, lowest_key.2)
 
-    pub next_order : r / 256 ≡ order_of s i
-    next_order = omega (arith, first_key, own.0)
+      pub next_row : k % 256 ≡ i
+      next_row = omega (arith, first_key, own.0)
 
-    pub next_fits : r / 256 < 72057594037927935
-    next_fits = omega (arith, next_order, small)
+      pub next_order : k / 256 ≡ order_of s i
+      next_order = omega (arith, first_key, own.0)
+
+      pub next_fits : k / 256 < 72057594037927935
+      next_fits = omega (arith, next_order, small)
+
+      pub next_later : last < k / 256
+      next_later = omega (arith, next_order, own.2)

@@ -1,9 +1,11 @@
 -- A row that is due, its place in the order and its key, the keys of all that are due, and the least key from a bound on.
 -- Assumes nothing.
-use Rattle.std.specs.Prelude.{◌≡◌, Bool, ◌&&◌, cond, List, [], ◌∷◌, ◌++◌, ℕ, zero, suc, ◌+◌, ◌*◌, ◌≤◌, eqb, leb, ltb, length, take}
+use Rattle.std.specs.Prelude.{◌≡◌, Bool, ◌&&◌, cond, List, [], ◌∷◌, ◌++◌, ℕ, Option, zero, suc, ◌+◌, ◌*◌, ◌≤◌, eqb, leb, min, length, take}
+use Rattle.std.specs.List.{filter, reduce}
 use Rattle.book.specs.Layout.{numbers, request_kinds, settlements}
 use Rattle.book.specs.State.{State}
 use Rattle.rules.specs.Settlement.{is_due}
+use Rattle.due_pairs.specs.declared.DueKeys.{DueKeys}
 
 -- a row of a kind that is due
 abbrev pub due_of : State → ℕ → ℕ → Bool
@@ -13,29 +15,21 @@ due_of s kind i = eqb (s request_kinds i) kind && is_due s i
 abbrev pub order_of : State → ℕ → ℕ
 order_of s i = s settlements i * 4294967296 + s numbers i
 
--- a row's place in the order and the row itself as one number; the greatest number of 64 bits stands for no row
+-- a row's place in the order and the row itself as one number
 abbrev pub key_of : ℕ → ℕ → ℕ
 key_of order i = order * 256 + i
-
-abbrev pub no_key : ℕ
-no_key = 18446744073709551615
 
 -- the keys of the rows below n that pass a test, in the order of the rows
 unfoldable pub keys_of : (ℕ → Bool) → (ℕ → ℕ) → ℕ → List ℕ
 keys_of t order zero = []
 keys_of t order (suc i) = cond (t i) (keys_of t order i ++ (key_of (order i) i ∷ [])) (keys_of t order i)
 
--- the first n numbers of a list are the keys of the rows of a kind below i that are due
-pub record Collected (s : State) (kind i : ℕ) (keys : List ℕ) (n : ℕ) : Type 0 where
-  pub long : length keys ≡ 256
-  pub few : n ≤ i
-  pub all : take n keys ≡ keys_of (due_of s kind) (order_of s) i
+-- the keys of the rows of a kind below i that are due
+pub record Collected (s : State) (kind i : ℕ) (due : DueKeys) : Type 0 where
+  pub long : length due.keys ≡ 256
+  pub few : due.count ≤ i
+  pub all : take due.count due.keys ≡ keys_of (due_of s kind) (order_of s) i
 
--- a key where it is one from a bound on and less than the least found so far, else that one
-unfoldable pub lesser_from : ℕ → ℕ → ℕ → ℕ
-lesser_from bound found key = cond (leb bound key && ltb key found) key found
-
--- the least of some keys from a bound on, and of a number
-unfoldable pub least_from : ℕ → ℕ → List ℕ → ℕ
-least_from bound found [] = found
-least_from bound found (key ∷ keys) = least_from bound (lesser_from bound found key) keys
+-- the least of some keys from a bound on
+abbrev pub least_from : ℕ → List ℕ → Option ℕ
+least_from bound keys = reduce min (filter (leb bound) keys)

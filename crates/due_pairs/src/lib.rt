@@ -1,18 +1,30 @@
 // The live pairs of a kind that are due, by their later requests: collected once as keys, and then the next by settlement date and the order in which they paired.
 #![tactic(auto)]
 
-ghost use Rattle.std.specs.Prelude.{◌≡◌, ◌+◌, ◌<◌, ◌≤◌, length, take};
-ghost use Rattle.book.specs.Layout.{book_length};
+ghost use Rattle.std.specs.Prelude.{◌≡◌, ◌+◌, ◌<◌, ◌≤◌, take};
 ghost use Rattle.book.specs.State.{state};
 ghost use Rattle.facts.specs.Good.{Good};
 ghost use Rattle.rules.specs.Settlement.{is_due};
-ghost use Rattle.due_pairs.specs.Due.{due_of, order_of, no_key, Collected, lesser_from, least_from};
+ghost use Rattle.due_pairs.specs.Due.{due_of, order_of, Collected, least_from};
+ghost use Rattle.due_pairs.specs.Numbered.{pair_number};
 
 use book::Book;
 use book::layout::Table;
 
-// Stands for no key: greater than every key.
-pub const NO_KEY: u64 = 18446744073709551615;
+// What the requests of a pair are, by the number in their rows.
+#[derive(Clone, Copy, Debug, PartialEq, Eq)]
+pub enum PairKind {
+    Fop = 6,
+    Return = 7,
+}
+
+impl From<PairKind> for u64 {
+    ghost from_gives = { λ kind number. number ≡ pair_number kind };
+
+    fn from(kind: PairKind) -> u64 {
+        kind as u64
+    }
+}
 
 // A row's place in the order: by settlement date, then by number.
 fn order_of(book: &Book, i: usize) -> u64
@@ -22,7 +34,7 @@ fn order_of(book: &Book, i: usize) -> u64
     book::get(book, Table::Settlements, i) * 4294967296 + book::get(book, Table::Numbers, i)
 }
 
-// Is the row the later request of a live pair that is due?
+// Is the row the later request of a live pair that is due? Guard by guard: at the joins of one long `&&` the facts of each test are lost.
 fn is_due_pair(book: &Book, i: usize) -> bool
     requires { Good (state book.now) × (i < 256) }
     ensures { result ≡ is_due (state book.now) i }
@@ -48,58 +60,56 @@ fn is_due_pair(book: &Book, i: usize) -> bool
 }
 
 // Is the row the later request of a live pair of a kind that is due? What few rows pass is asked first.
-fn is_due(book: &Book, kind: u64, i: usize) -> bool
+fn is_due(book: &Book, kind: PairKind, i: usize) -> bool
     requires { Good (state book.now) × (i < 256) }
-    ensures { result ≡ due_of (state book.now) kind i }
+    ensures { result ≡ due_of (state book.now) (pair_number kind) i }
 {
-    if book::get(book, Table::RequestKinds, i) != kind {
-        return false;
-    }
-    is_due_pair(book, i)
+    book::get(book, Table::RequestKinds, i) == u64::from(kind) && is_due_pair(book, i)
 }
 
-// Puts the key of a row that is due behind the n found so far. How many there are then.
-fn note_due(book: &Book, kind: u64, i: usize, keys: &mut [u64; 256], n: usize) -> usize
-    requires { Good (state book.now) × (i < 256) × Collected (state book.now) kind i keys.old n }
-    ensures { Collected (state book.now) kind (i + 1) keys.new result }
-{
-    if !is_due(book, kind, i) {
-        return n;
-    }
-    keys[n] = order_of(book, i) * 256 + i as u64;
-    n + 1
+// The rows of a kind that are due, each by its key: its place in the order times 256, and the row.
+#[derive(Clone, Copy)]
+pub struct DueKeys {
+    keys: [u64; 256],
+    count: usize,
 }
 
-// Puts the keys of the rows of a kind that are due at the front, in the order of the rows. How many there are.
-pub fn collect(book: &Book, kind: u64, keys: &mut [u64; 256]) -> usize
-    requires { Good (state book.now) × (length keys.old ≡ 256) }
-    ensures { Collected (state book.now) kind 256 keys.new result }
-{
-    let mut n: usize = 0;
-    for i in 0..256 {
-        n = note_due(book, kind, i, keys, n);
+impl DueKeys {
+    // Puts the key of a row that is due behind those found so far.
+    fn note(&mut self, book: &Book, kind: PairKind, i: usize)
+        requires { Good (state book.now) × (i < 256) × Collected (state book.now) (pair_number kind) i self.old }
+        ensures { Collected (state book.now) (pair_number kind) (i + 1) self.new }
+    {
+        if is_due(book, kind, i) {
+            self.keys[self.count] = order_of(book, i) * 256 + i as u64;
+            self.count += 1;
+        }
     }
-    n
-}
 
-// A key where it is one from a bound on and less than the least found so far, else that one.
-fn lesser_from(bound: u64, least: u64, key: u64) -> u64
-    ensures { result ≡ lesser_from bound least key }
-{
-    if key < bound {
-        return least;
+    // The keys of the rows of a kind that are due.
+    pub fn of(book: &Book, kind: PairKind) -> DueKeys
+        requires { Good (state book.now) }
+        ensures { Collected (state book.now) (pair_number kind) 256 result }
+    {
+        let mut due = DueKeys {
+            keys: [0; 256],
+            count: 0,
+        };
+        for i in 0..256 {
+            due.note(book, kind, i);
+        }
+        due
     }
-    if key < least { key } else { least }
-}
 
-// The least of the first n keys from a bound on; `NO_KEY` where there is none.
-pub fn next_key(keys: &[u64; 256], n: usize, bound: u64) -> u64
-    requires { (n ≤ 256) × (length keys.now ≡ 256) }
-    ensures { result ≡ least_from bound no_key (take n keys.now) }
-{
-    let mut least = NO_KEY;
-    for j in 0..n {
-        least = lesser_from(bound, least, keys[j]);
+    // The least key from a bound on.
+    pub fn next_from(&self, bound: u64) -> Option<u64>
+        requires { self.now.count ≤ 256 }
+        ensures { result ≡ least_from bound (take self.now.count self.now.keys) }
+    {
+        self.keys[..self.count]
+            .iter()
+            .copied()
+            .filter(|key| bound <= *key)
+            .min()
     }
-    least
 }

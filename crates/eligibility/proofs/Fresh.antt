@@ -1,21 +1,21 @@
 -- The first fresh day of each basket.
 -- Assumes nothing.
-use mathlib.Core.Path.{◌≡◌, refl, ◌∙◌}
+use mathlib.Core.Path.{◌≡◌, refl, sym, ◌∙◌}
 use mathlib.Core.List.{List}
-use Prim.Native.Nat.{ℕ, ◌+◌, ◌≤◌, ◌<◌}
+use Prim.Native.Nat.{ℕ, ◌+◌, ◌≤◌}
 use native.Mathlib.Decide.{ℕ_discrete}
 use native.Mathlib.Nat.{le_refl}
 use native.Mathlib.Omega.{arith}
 use lib.ListN.{get_or}
 use Rattle.laws.specs.Filled.{filled}
 use Rattle.laws.proofs.Filled.{filled_at}
-use Rattle.baskets.specs.Fresh.{FreshAges, EligibilityFor}
-use Rattle.book.specs.Layout.{today, lots, prices, haircuts, quote_days, maps, greatest_ages, exposure_baskets}
+use Rattle.baskets.specs.Fresh.{FreshAges}
+use Rattle.book.specs.Layout.{today, lots, prices, haircuts, quote_days, greatest_ages}
 use Rattle.book.specs.State.{State, columns_of}
-use Rattle.rules.specs.Stock.{basket_of}
 use Rattle.facts.specs.Good.{Sound}
 use Rattle.facts.proofs.Stock.{age_le, columns_same}
-use Rattle.eligibility.specs.Fresh.{Aged, FreshBaskets, SamePrices}
+use Rattle.eligibility.specs.Fresh.{Aged, FreshBaskets, PricesOf, SamePrices}
+use Rattle.eligibility.specs.declared.Prices.{Prices}
 
 -- a sound book's baskets take prices of 255 open days at most
 pub sound_aged : (s : State) → Sound s → Aged 255 16 s
@@ -42,14 +42,12 @@ baskets_fresh {s} {columns} {days} {since} {most} {day} cq dq a f q = record {
       rw (found, ← cq, ← dq) (f.each (s greatest_ages b) (a.each b l));
 }
 
--- the day of an exposure's basket
-pub fresh_for : (s : State) (e : ℕ) {since : List ℕ} {b m : ℕ} → FreshBaskets s since → s exposure_baskets e < 16 → b ≡ s exposure_baskets e → m ≡ s maps b
-    → EligibilityFor (basket_of s e) (s today 0) (columns_of s) (record { map = m; since = get_or since b 0 })
-fresh_for s e f l bq mq = record { map = rw bq at mq; fresh = rw bq (f.each (s exposure_baskets e) l) }
-
--- the same prices, the same days
+-- the same prices are worth the same
 pub fresh_same : {s t : State} {since : List ℕ} → SamePrices s t → FreshBaskets s since → FreshBaskets t since
 fresh_same {s} {t} k f = record { each = λ b l. rw (k.columns, k.day, k.ages_kept b) (f.each b l) }
+
+pub prices_same : {s t : State} {prices : Prices} → SamePrices s t → PricesOf s prices → PricesOf t prices
+prices_same k p = record { columns = p.columns ∙ sym k.columns; fresh = fresh_same k p.fresh }
 
 pub same_start : (s : State) → SamePrices s s
 same_start s = record { columns = refl; day = refl; ages_kept = λ b. refl }

@@ -1,2 +1,1 @@
-pub mod Baskets
 pub mod Fresh

@@ -4,6 +4,7 @@ use Rattle.std.specs.Prelude.{◌≡◌, List, ℕ, ◌≤◌, ◌<◌, get_or}
 use Rattle.baskets.specs.Fresh.{FreshSince}
 use Rattle.book.specs.Layout.{today, greatest_ages}
 use Rattle.book.specs.State.{State, columns_of}
+use Rattle.eligibility.specs.declared.Prices.{Prices}
 
 -- no basket below n takes a price older than `most`
 pub record Aged (most n : ℕ) (s : State) : Type 0 where
@@ -13,7 +14,12 @@ pub record Aged (most n : ℕ) (s : State) : Type 0 where
 pub record FreshBaskets (s : State) (since : List ℕ) : Type 0 where
   pub each : (b : ℕ) → b < 16 → FreshSince (columns_of s) (s today 0) (s greatest_ages b) (get_or since b 0)
 
--- what such days depend on is as it was
+-- what a state's prices are worth on its day
+pub record PricesOf (s : State) (prices : Prices) : Type 0 where
+  pub columns : prices.columns ≡ columns_of s
+  pub fresh : FreshBaskets s prices.since
+
+-- what such prices depend on is as it was
 pub record SamePrices (s t : State) : Type 0 where
   pub columns : columns_of t ≡ columns_of s
   pub day : t today 0 ≡ s today 0

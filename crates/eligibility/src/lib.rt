@@ -6,7 +6,7 @@ ghost use Rattle.baskets.specs.Fresh.{EligibilityFor};
 ghost use Rattle.book.specs.Layout.{book_length, today, exposure_baskets};
 ghost use Rattle.book.specs.State.{state, columns_of};
 ghost use Rattle.rules.specs.Stock.{basket_of};
-ghost use Rattle.eligibility.specs.Fresh.{Aged, FreshBaskets};
+ghost use Rattle.eligibility.specs.Fresh.{Aged, FreshBaskets, PricesOf};
 
 use baskets::{Basket, Eligibility};
 use book::Book;
@@ -24,13 +24,6 @@ pub fn basket_of(book: &Book, e: usize) -> Basket
     }
 }
 
-// The larger of two numbers.
-fn larger(a: u64, b: u64) -> u64
-    ensures { (a ≤ result) × (b ≤ result) × (a ≤ 255 → b ≤ 255 → result ≤ 255) }
-{
-    if a < b { b } else { a }
-}
-
 // The greatest age that a basket takes a price of.
 fn greatest_age(book: &Book) -> u64
     requires { Aged 255 16 (state book.now) }
@@ -38,13 +31,13 @@ fn greatest_age(book: &Book) -> u64
 {
     let mut most: u64 = 0;
     for b in 0..16 {
-        most = larger(most, book::get(book, Table::GreatestAges, b));
+        most = most.max(book::get(book, Table::GreatestAges, b));
     }
     most
 }
 
-// The first day of a fresh price for each basket, found once for all Picks of a call.
-pub fn fresh_since(book: &Book, columns: &[u64; 256]) -> [u64; 16]
+// The first day of a fresh price for each basket.
+fn fresh_since(book: &Book, columns: &[u64; 256]) -> [u64; 16]
     requires { Aged 255 16 (state book.now) × (columns.now ≡ columns_of (state book.now)) }
     ensures { FreshBaskets (state book.now) result }
 {
@@ -58,13 +51,33 @@ pub fn fresh_since(book: &Book, columns: &[u64; 256]) -> [u64; 16]
     since
 }
 
+// What the prices in the book are worth today, found once for all steps of a call: the securities' columns, and the first day of a
+// fresh price for each basket.
+#[derive(Clone, Copy)]
+pub struct Prices {
+    pub columns: [u64; 256],
+    pub since: [u64; 16],
+}
+
+impl Prices {
+    // As the book stands.
+    pub fn of(book: &Book) -> Prices
+        requires { Aged 255 16 (state book.now) }
+        ensures { PricesOf (state book.now) result }
+    {
+        let columns = book::columns(book);
+        let since = fresh_since(book, &columns);
+        Prices { columns, since }
+    }
+}
+
 // Which securities are eligible for an exposure, by the first fresh days.
-pub fn eligibility_of(book: &Book, since: &[u64; 16], e: usize) -> Eligibility
-    requires { (e < 64) × (state book.now exposure_baskets e < 16) × FreshBaskets (state book.now) since.now }
+pub fn eligibility_of(book: &Book, prices: &Prices, e: usize) -> Eligibility
+    requires { (e < 64) × (state book.now exposure_baskets e < 16) × PricesOf (state book.now) prices.now }
     ensures { EligibilityFor (basket_of (state book.now) e) (state book.now today 0) (columns_of (state book.now)) result }
 {
     let b = book::get(book, Table::ExposureBaskets, e) as usize;
     let map = book::get(book, Table::Maps, b);
-    let day = since[b];
+    let day = prices.since[b];
     Eligibility { map, since: day }
 }

@@ -39,8 +39,8 @@ module _ (s : State) (e i : ℕ) (l : i < 64) (columns : List ℕ) (x : Eligibil
   held : n ≡ get_or (position_of s e) i 0
   held = q ∙ sym (position_at s e i l)
 
-  pub none_held : n ≡ 0 → true ≡ may_stay (position_of s e) columns x i
-  none_held z = sym (eq-eqb (ineligible_in (position_of s e) columns x i) 0 (sym (no_nominal (position_of s e) columns x i (sym held ∙ z))))
+  pub none_held : n ≡ 0 → eqb n 0 ≡ may_stay (position_of s e) columns x i
+  none_held z = eq-eqb n 0 z ∙ sym (eq-eqb (ineligible_in (position_of s e) columns x i) 0 (sym (no_nominal (position_of s e) columns x i (sym held ∙ z))))
 
   pub some_held : (n ≡ 0 → ⊥) → {b : Bool} → b ≡ eligible_by x columns i → b ≡ may_stay (position_of s e) columns x i
   some_held z {b} h =

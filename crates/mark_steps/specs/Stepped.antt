@@ -5,18 +5,15 @@ use Rattle.baskets.specs.Fresh.{eligible_by}
 use Rattle.baskets.specs.declared.Eligibility.{Eligibility}
 use Rattle.book.specs.State.{State, state}
 use Rattle.bonds.specs.Moves.{SoundBook}
+use Rattle.eligibility.specs.declared.Prices.{Prices}
 use Rattle.rules.specs.Marking.{moved}
 use Rattle.marking_laws.specs.Pass.{on_used}
 
--- 1 where a test holds, else 0
-abbrev pub bit : Bool → ℕ
-bit b = cond b 1 0
-
--- a step on one exposure: the book, sound and with the same securities, and 1 where the exposure's position is another
-pub record Stepped (step : State → ℕ → State) (columns before after : List ℕ) (e flag : ℕ) : Type 0 where
-  pub book : SoundBook after columns
+-- a step on one exposure: the book, sound and with the same prices, and whether the exposure's position is another
+pub record Stepped (step : State → ℕ → State) (prices : Prices) (before after : List ℕ) (e : ℕ) (has_moved : Bool) : Type 0 where
+  pub book : SoundBook after prices
   pub stepped : state after ≡ on_used step (state before) e
-  pub flag_is : flag ≡ bit (moved (state before) (state after) e)
+  pub told : has_moved ≡ moved (state before) (state after) e
 
 -- the nominals of a position that are not eligible
 abbrev pub ineligible_in : List ℕ → List ℕ → Eligibility → ℕ → ℕ

@@ -6,35 +6,35 @@ ghost use Rattle.laws.specs.Filled.{filled};
 ghost use Rattle.laws.specs.Search.{all};
 ghost use Rattle.book.specs.Layout.{book_length};
 ghost use Rattle.book.specs.State.{state};
-ghost use Rattle.eligibility.specs.Fresh.{FreshBaskets};
 ghost use Rattle.bonds.specs.Moves.{SoundBook, GivingBack};
 ghost use Rattle.rules.specs.Marking.{moved, ineligible_back, excess_back, shortfall_in, missing_of};
 ghost use Rattle.rules.specs.Stock.{position_of, give_back};
 ghost use Rattle.securities.specs.Bounds.{AllInBounds};
 ghost use Rattle.marking_laws.specs.Pass.{is_empty};
-ghost use Rattle.mark_steps.specs.Stepped.{Stepped, bit, ineligible_in, may_stay};
+ghost use Rattle.mark_steps.specs.Stepped.{Stepped, ineligible_in, may_stay};
 
 use baskets::Eligibility;
 use book::Book;
 use book::layout::Table;
+use eligibility::Prices;
 
-// What a step leaves of an exposure: 1 where its position is another, and what its value is short of its amount.
+// What a step leaves of an exposure: is its position another, and what is its value short of its amount?
 #[derive(Clone, Copy)]
 pub struct Passed {
-    pub moved: u64,
+    pub moved: bool,
     pub missing: u64,
 }
 
-// Bonds of so many securities go back from an exposure's position into its giver's account; 1 where there are any.
-fn give_any_back(book: &mut Book, e: usize, nominals: &[u64; 64], count: u64) -> u64
+// Bonds of so many securities go back from an exposure's position into its giver's account. Are there any?
+fn give_any_back(book: &mut Book, e: usize, nominals: &[u64; 64], count: u64) -> bool
     requires { GivingBack (state book.old) e nominals.now × (is_empty nominals.now ≡ eqb count 0) }
-    ensures { (state book.new ≡ give_back (state book.old) e nominals.now) × (result ≡ bit (moved (state book.old) (state book.new) e)) }
+    ensures { (state book.new ≡ give_back (state book.old) e nominals.now) × (result ≡ moved (state book.old) (state book.new) e) }
 {
     if count == 0 {
-        return 0;
+        return false;
     }
     bonds::give_back(book, e, nominals);
-    1
+    true
 }
 
 // The whole nominal of a security that is not eligible, else nothing.
@@ -43,10 +43,7 @@ fn ineligible_nominal(position: &[u64; 64], columns: &[u64; 256], x: Eligibility
     ensures { result ≡ ineligible_in position.now columns.now x i }
 {
     let nominal = position[i];
-    if nominal == 0 {
-        return 0;
-    }
-    if baskets::is_eligible(x, columns, i) {
+    if nominal == 0 || baskets::is_eligible(x, columns, i) {
         0
     } else {
         nominal
@@ -70,10 +67,7 @@ fn may_stay(book: &Book, columns: &[u64; 256], x: Eligibility, e: usize, i: usiz
     requires { (e < 64) × (i < 64) × AllInBounds columns.now }
     ensures { result ≡ may_stay (position_of (state book.now) e) columns.now x i }
 {
-    if book::get(book, Table::Positions, 64 * e + i) == 0 {
-        return true;
-    }
-    baskets::is_eligible(x, columns, i)
+    book::get(book, Table::Positions, 64 * e + i) == 0 || baskets::is_eligible(x, columns, i)
 }
 
 // May all that an exposure holds stay? Reads the position in the book without a copy: on most days nothing goes back.
@@ -81,79 +75,72 @@ fn may_all_stay(book: &Book, columns: &[u64; 256], x: Eligibility, e: usize) -> 
     requires { (e < 64) × AllInBounds columns.now }
     ensures { result ≡ all (may_stay (position_of (state book.now) e) columns.now x) 64 0 }
 {
-    for i in 0..64 {
-        if !may_stay(book, columns, x, e, i) {
-            return false;
-        }
+    (0..64).all(|i| may_stay(book, columns, x, e, i))
+}
+
+// First pass: gives back what is not eligible. Was there anything?
+pub fn give_ineligible(book: &mut Book, prices: &Prices, e: usize) -> bool
+    requires { SoundBook book.old prices.now × (e < 64) }
+    ensures { Stepped ineligible_back prices.now book.old book.new e result }
+{
+    if book::get(book, Table::InUse, e) != 1 {
+        return false;
     }
+    let x = eligibility::eligibility_of(book, prices, e);
+    if may_all_stay(book, &prices.columns, x, e) {
+        return false;
+    }
+    let position = book::row_at(book, Table::Positions, 64 * e);
+    let nominals = ineligible(&position, &prices.columns, x);
+    bonds::give_back(book, e, &nominals);
     true
 }
 
-// First pass: gives back what is not eligible; 1 where there was anything.
-pub fn give_ineligible(book: &mut Book, columns: &[u64; 256], since: &[u64; 16], e: usize) -> u64
-    requires { SoundBook book.old columns.now × (e < 64) × FreshBaskets (state book.old) since.now }
-    ensures { Stepped ineligible_back columns.now book.old book.new e result }
-{
-    if book::get(book, Table::InUse, e) != 1 {
-        return 0;
-    }
-    let x = eligibility::eligibility_of(book, since, e);
-    if may_all_stay(book, columns, x, e) {
-        return 0;
-    }
-    let position = book::row_at(book, Table::Positions, 64 * e);
-    let nominals = ineligible(&position, columns, x);
-    bonds::give_back(book, e, &nominals);
-    1
-}
-
 // Second pass: frees the position down to the exposure's amount. An exposure that is not used lacks nothing.
-pub fn free_excess(book: &mut Book, columns: &[u64; 256], e: usize) -> Passed
-    requires { SoundBook book.old columns.now × (e < 64) }
-    ensures { Stepped excess_back columns.now book.old book.new e result.moved × (result.missing ≡ missing_of (state book.new) e) }
+pub fn free_excess(book: &mut Book, prices: &Prices, e: usize) -> Passed
+    requires { SoundBook book.old prices.now × (e < 64) }
+    ensures { Stepped excess_back prices.now book.old book.new e result.moved × (result.missing ≡ missing_of (state book.new) e) }
 {
     if book::get(book, Table::InUse, e) != 1 {
         return Passed {
-            moved: 0,
+            moved: false,
             missing: 0,
         };
     }
     let position = book::row_at(book, Table::Positions, 64 * e);
     let amount = book::get(book, Table::ExposureAmounts, e);
-    let freed = picking::free(&position, columns, amount);
-    let nominals = freed.nominals;
-    let moved = give_any_back(book, e, &nominals, freed.count);
+    let freed = picking::free(&position, &prices.columns, amount);
+    let moved = give_any_back(book, e, &freed.nominals, freed.count);
     Passed {
         moved,
-        missing: bonds::missing_from(amount, freed.left),
+        missing: amount.saturating_sub(freed.left),
     }
 }
 
 // Third pass: picks what is missing. A position is valued anew, each security at its whole nominal, where it took in.
-pub fn search_missing(
-    book: &mut Book,
-    columns: &[u64; 256],
-    since: &[u64; 16],
-    e: usize,
-    missing: u64,
-) -> Passed
-    requires { SoundBook book.old columns.now × (e < 64) × (missing ≡ missing_of (state book.old) e) × FreshBaskets (state book.old) since.now }
-    ensures { Stepped shortfall_in columns.now book.old book.new e result.moved × (result.missing ≡ missing_of (state book.new) e) }
+pub fn search_missing(book: &mut Book, prices: &Prices, e: usize, missing: u64) -> Passed
+    requires { SoundBook book.old prices.now × (e < 64) × (missing ≡ missing_of (state book.old) e) }
+    ensures { Stepped shortfall_in prices.now book.old book.new e result.moved × (result.missing ≡ missing_of (state book.new) e) }
 {
     if missing == 0 {
-        return Passed { moved: 0, missing };
+        return Passed {
+            moved: false,
+            missing,
+        };
     }
-    let found = bonds::pick_for(book, columns, since, e, missing);
+    let found = bonds::pick_for(book, prices, e, missing);
     if found.count == 0 {
-        return Passed { moved: 0, missing };
+        return Passed {
+            moved: false,
+            missing,
+        };
     }
-    let nominals = found.nominals;
-    bonds::pledge(book, e, &nominals);
+    bonds::pledge(book, e, &found.nominals);
     let position = book::row_at(book, Table::Positions, 64 * e);
-    let value = securities::worth_of(&position, columns);
+    let value = securities::worth_of(&position, &prices.columns);
     let exposure = book::get(book, Table::ExposureAmounts, e);
     Passed {
-        moved: 1,
-        missing: bonds::missing_from(exposure, value),
+        moved: true,
+        missing: exposure.saturating_sub(value),
     }
 }

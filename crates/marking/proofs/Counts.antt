@@ -1,22 +1,30 @@
--- Flags of exposures, and how they count.
+-- What loops over the exposures keep: flags, counts and sums so far.
 -- Assumes nothing.
+use mir.Val.{bool_byte}
 use mathlib.Core.Path.{◌≡◌, refl, sym, ap, ◌∙◌}
 use mathlib.Core.Bool.{Bool, true, false, ◌||◌, cond}
+use mathlib.Core.List.{List}
 use mathlib.Core.Logic.{⊎_elim}
 use Prim.Native.Nat.{ℕ, zero, suc, ◌+◌, ◌≤◌, ◌<◌}
-use native.Mathlib.Nat.{le_refl, add-zero, zero-add, add-suc, suc-add}
+use native.Mathlib.Nat.{add-zero, zero-add, add-suc, suc-add}
+use native.Mathlib.Numerals.{add-one}
 use native.Mathlib.Omega.{arith}
-use lib.Dec.{eqb}
-use lib.ListN.{get_or}
-use borrow.Author.Tests.{eq-eqb, ne_eqb}
+use lib.ListN.{length, get_or, set}
+use lib.Seq.{get_or-set_same, get_or-set_other}
+use borrow.Author.Count.{below_more}
 use Rattle.laws.specs.Search.{count}
 use Rattle.laws.specs.Sum.{sum}
 use Rattle.laws.proofs.Cases.{either}
-use Rattle.laws.proofs.Filled.{filled_at}
 use Rattle.laws.proofs.Least.{count_hit, count_miss, count_none}
-use Rattle.laws.proofs.Sum.{sum_next, sum_same}
-use Rattle.mark_steps.specs.Stepped.{bit}
-use Rattle.marking.specs.Flags.{flags_of, or_flag, count_with, count_of, Flags}
+use Rattle.laws.proofs.Sum.{sum_next}
+
+-- one flag more
+pub flags_next : (test : ℕ → Bool) (flags : List Bool) (e : ℕ) {b : Bool} → e < length flags → b ≡ test e → ((j : ℕ) → j < e → get_or flags j false ≡ test j)
+    → (j : ℕ) → j < e + 1 → get_or (set flags e b) j false ≡ test j
+flags_next test flags e {b} l q h =
+    below_more (λ j. get_or (set flags e b) j false ≡ test j) e
+    (λ j k. let ne : j ≡ e → ⊥ = omega arith in get_or-set_other flags e j b false ne ∙ h j k)
+    (get_or-set_same flags e b false l ∙ q)
 
 -- a sum on the way: none yet, and one number more
 pub sum_none : (f : ℕ → ℕ) → 0 ≡ sum f 0
@@ -26,58 +34,51 @@ sum_none f = refl
 pub sum_more : (f : ℕ → ℕ) (e : ℕ) {n x : ℕ} → n ≡ sum f e → x ≡ f e → n + x ≡ sum f (e + 1)
 sum_more f e h q = rw (sum_next f e, h, q)
 
--- the flag of before, or the new one
-pub first_none : (first second : ℕ) → first ≡ 0 → second ≡ cond (eqb first 0) second first
-first_none first second z = rw (eq-eqb first 0 z)
-
-pub first_some : (first second : ℕ) → (first ≡ 0 → ⊥) → first ≡ cond (eqb first 0) second first
-first_some first second n = rw (ne_eqb first 0 n)
-
-pub bit_le : (b : Bool) → bit b ≤ 1
-bit_le true = le_refl 1
-bit_le false = omega arith
-
-pub or_le : (flag : ℕ) (b : Bool) → flag ≤ 1 → or_flag flag b ≤ 1
-or_le flag b h = ⊎_elim (λ e. rw e (bit_le b)) (λ e. rw e h) (either (eqb flag 0))
-
--- a flag joined with a new one
-pub or_flag_lem : (first : ℕ) (b : Bool) {second flag : ℕ} → flag ≡ cond (eqb first 0) second first → second ≡ bit b → flag ≡ or_flag first b
-or_flag_lem first b h q = rw q at h
-
-pub flags_small : (test : ℕ → Bool) → Flags (flags_of test)
-flags_small test = record { small = λ e l. rw (filled_at (λ e. bit (test e)) 64 64 e (le_refl 64) l) (bit_le (test e)) }
-
--- a flag for one test, joined with another test, is that of either
-or_bits : (a b : Bool) → or_flag (bit a) b ≡ bit (a || b)
-or_bits true b = refl
-or_bits false b = refl
-
 -- one number more at the end of a count
-count_last : (test : ℕ → Bool) (n i : ℕ) → count test (suc n) i ≡ count test n i + bit (test (i + n))
+count_last : (test : ℕ → Bool) (n i : ℕ) → count test (suc n) i ≡ count test n i + cond (test (i + n)) 1 0
 count_last test zero i =
-    let here : bit (test (i + 0)) ≡ bit (test i) = ap (λ (k : ℕ). bit (test k)) (add-zero i) in
+    let here : cond {A = ℕ} (test (i + 0)) 1 0 ≡ cond {A = ℕ} (test i) 1 0 = ap {B = ℕ} (λ (k : ℕ). cond (test k) 1 0) (add-zero i) in
     ⊎_elim
-    (λ e. omega (arith, ap bit e, count_hit test 0 i e, count_none test i, count_none test (suc i)))
-    (λ e. omega (arith, ap bit e, count_miss test 0 i e, count_none test i, count_none test (suc i)))
+    (λ e. omega (arith, here, ap {B = ℕ} (λ (b : Bool). cond b 1 0) e, count_hit test 0 i e, count_none test i, count_none test (suc i)))
+    (λ e. omega (arith, here, ap {B = ℕ} (λ (b : Bool). cond b 1 0) e, count_miss test 0 i e, count_none test i, count_none test (suc i)))
     (either (test i))
 count_last test (suc n) i =
-    let later : count test (suc n) (suc i) ≡ count test n (suc i) + bit (test (i + suc n)) = rw (add-suc, ← suc-add i n) (count_last test n (suc i)) in
+    let later : count test (suc n) (suc i) ≡ count test n (suc i) + cond (test (i + suc n)) 1 0 = rw (add-suc, ← suc-add i n) (count_last test n (suc i)) in
     ⊎_elim
     (λ e. omega (arith, later, count_hit test (suc n) i e, count_hit test n i e))
     (λ e. omega (arith, later, count_miss test (suc n) i e, count_miss test n i e))
     (either (test i))
 
--- so a count from 0 is a sum
-sum_count : (test : ℕ → Bool) (n : ℕ) → sum (λ e. bit (test e)) n ≡ count test n 0
-unfolding sum
-sum_count test zero = sym (count_none test 0)
-sum_count test (suc n) = rw (sum_count test n) (sym (count_last test n 0 ∙ rw (zero-add n)))
+-- two tests alike over a range count alike
+pub count_same : (t u : ℕ → Bool) (n i : ℕ) → ((j : ℕ) → i ≤ j → j < i + n → t j ≡ u j) → count t n i ≡ count u n i
+count_same t u zero i h = count_none t i ∙ sym (count_none u i)
+count_same t u (suc n) i h =
+    let later = count_same t u n (suc i) (λ j g l. h j (omega arith) (omega arith)) in
+    let here = h i (omega arith) (omega arith) in
+    ⊎_elim
+    (λ e. count_hit t n i e ∙ ap suc later ∙ sym (count_hit u n i (sym here ∙ e)))
+    (λ e. count_miss t n i e ∙ later ∙ sym (count_miss u n i (sym here ∙ e)))
+    (either (t i))
 
-pub flags_count : (test : ℕ → Bool) → count_of test ≡ count test 64 0
-flags_count test = sum_count test 64
+-- a flag from before, or a test
+pub or_first : {b flag : Bool} (test : Bool) → b ≡ true → flag ≡ true → b ≡ (flag || test)
+or_first test p q = rw q p
 
-pub either_count : (first second both : ℕ → Bool) → ((e : ℕ) → e < 64 → both e ≡ (first e || second e)) → count_with (flags_of first) second ≡ count both 64 0
-either_count first second both h =
-    sum_same (λ e. or_flag (get_or (flags_of first) e 0) (second e)) (λ e. bit (both e)) 64
-    (λ e l. rw (filled_at (λ e. bit (first e)) 64 64 e (le_refl 64) l, h e l) (or_bits (first e) (second e)))
-    ∙ flags_count both
+pub or_second : {b flag test : Bool} → b ≡ test → flag ≡ false → b ≡ (flag || test)
+or_second p q = rw q p
+
+-- a test as a number
+byte_is : (b : Bool) → bool_byte b ≡ cond b 1 0
+byte_is true = refl
+byte_is false = refl
+
+pub byte_le : (b : Bool) {x : ℕ} → x ≡ bool_byte b → x ≤ 1
+byte_le true q = omega (arith, q)
+byte_le false q = omega (arith, q)
+
+-- so a loop counts
+pub count_more : (test : ℕ → Bool) (e : ℕ) {n x : ℕ} {b : Bool} → n ≡ count test e 0 → x ≡ bool_byte b → b ≡ test e → n + x ≡ count test (e + 1) 0
+count_more test e {n} {x} {b} h q p =
+    let here : x ≡ cond (test e) 1 0 = q ∙ byte_is b ∙ ap {B = ℕ} (λ (t : Bool). cond t 1 0) p in
+    let last : count test (suc e) 0 ≡ count test e 0 + cond (test e) 1 0 = rw zero-add at (count_last test e 0) in
+    rw (add-one, last, h, here)

@@ -2,7 +2,7 @@
 -- exposure is what the whole pass does to it.
 -- Assumes nothing.
 use mathlib.Core.Path.{◌≡◌, refl, sym, ap, ◌∙◌}
-use mathlib.Core.Bool.{cond}
+use mathlib.Core.Bool.{Bool, cond}
 use mathlib.Core.List.{List}
 use mathlib.Core.Logic.{⊎_elim}
 use Prim.Native.Nat.{ℕ, ◌+◌, ◌*◌, ◌-◌, ◌≤◌, ◌<◌}
@@ -12,10 +12,9 @@ use lib.Dec.{eqb}
 use borrow.Author.Tests.{eqb-true}
 use Rattle.laws.proofs.Cases.{either}
 use Rattle.securities.specs.Position.{worth, nominals_of}
-use Rattle.book.specs.Layout.{today, greatest_ages, in_use, exposure_amounts, positions}
+use Rattle.book.specs.Layout.{in_use, exposure_amounts, positions}
 use Rattle.book.specs.State.{State, state, columns_of}
-use Rattle.eligibility.specs.Fresh.{FreshBaskets, SamePrices}
-use Rattle.eligibility.proofs.Fresh.{fresh_same}
+use Rattle.eligibility.specs.declared.Prices.{Prices}
 use Rattle.bonds.specs.Moves.{SoundBook}
 use Rattle.bonds.proofs.Rows.{amount_le}
 use Rattle.facts.proofs.Filled.{filled_same}
@@ -25,7 +24,7 @@ use Rattle.marking_laws.proofs.Marking.{amounts_kept}
 use Rattle.marking_laws.proofs.Moved.{Bonds, bonds_then, Alike}
 use Rattle.marking_laws.proofs.Passes.{on_none, on_next, own_used, pass_bonds, pass_later, pass_row, pass_moved}
 use Rattle.marking_laws.proofs.Recalls.{columns_kept}
-use Rattle.mark_steps.specs.Stepped.{Stepped, bit}
+use Rattle.mark_steps.specs.Stepped.{Stepped}
 use Rattle.mark_steps.proofs.Passable.{Passable}
 
 -- positions alike, as much missing
@@ -42,37 +41,24 @@ bonds_between : {s t u : State} → Bonds s t → Bonds s u → Bonds t u
 bonds_between b c = record { others = λ g j a p. c.others g j a p ∙ sym (b.others g j a p) }
 
 -- no more than an amount is missing
-pub missing_le : {book columns : List ℕ} {e : ℕ} → SoundBook book columns → e < 64 → missing_of (state book) e ≤ 10000000000000
-missing_le {book} {columns} {e} m below =
+pub missing_le : {book : List ℕ} {prices : Prices} {e : ℕ} → SoundBook book prices → e < 64 → missing_of (state book) e ≤ 10000000000000
+missing_le {book} {prices} {e} m below =
     ⊎_elim
     (λ t. let a = amount_le m below refl (eqb-true (state book in_use e) 1 t) in rw t (omega arith))
     (λ f. rw f (omega arith))
     (either (eqb (state book in_use e) 1))
 
--- no pass changes a price
-pass_prices : {step : State → ℕ → State} → Passable step → (s : State) (n : ℕ) → SamePrices s (on_exposures step n s)
-pass_prices {step} p s n =
-    let b = pass_bonds step p.local s n in
-    record {
-      columns = columns_kept b;
-      day = b.others today 0 (λ q. omega arith) (λ q. omega arith);
-      ages_kept = λ j. b.others greatest_ages j (λ q. omega arith) (λ q. omega arith);
-    }
-
-pub passed_fresh : {step : State → ℕ → State} → Passable step → (n : ℕ) {s t : State} {since : List ℕ} → t ≡ on_exposures step n s → FreshBaskets s since → FreshBaskets t since
-passed_fresh p n {s} q f = fresh_same (rw q (pass_prices p s n)) f
-
 -- the book after the exposures below e
-pub record On (step : State → ℕ → State) (columns start book : List ℕ) (e : ℕ) : Type 0 where
-  pub whole : SoundBook book columns
+pub record On (step : State → ℕ → State) (prices : Prices) (start book : List ℕ) (e : ℕ) : Type 0 where
+  pub whole : SoundBook book prices
   pub reached : state book ≡ on_exposures step e (state start)
 
-module _ {step : State → ℕ → State} {columns start : List ℕ} where
-  pub on_start : SoundBook start columns → On step columns start start 0
+module _ {step : State → ℕ → State} {prices : Prices} {start : List ℕ} where
+  pub on_start : SoundBook start prices → On step prices start start 0
   on_start m = record { whole = m; reached = sym (on_none step (state start)) }
 
-  module _ {book : List ℕ} {e : ℕ} (o : On step columns start book e) where
-    pub on_step : {after : List ℕ} {flag : ℕ} → Stepped step columns book after e flag → On step columns start after (e + 1)
+  module _ {book : List ℕ} {e : ℕ} (o : On step prices start book e) where
+    pub on_step : {after : List ℕ} {flag : Bool} → Stepped step prices book after e flag → On step prices start after (e + 1)
     on_step t = record { whole = t.book; reached = t.stepped ∙ rw o.reached (sym (on_next step e (state start))) }
 
     pub on_end : e ≤ 64 → 64 ≤ e → state book ≡ on_exposures step 64 (state start)
@@ -83,9 +69,9 @@ module _ {step : State → ℕ → State} {columns start : List ℕ} where
       pub on_before : missing_of (state start) e ≡ missing_of (state book) e
       on_before = rw o.reached (sym (missing_same e (pass_bonds step p.local (state start) e) (pass_later step p.local (state start) e e (le_refl e))))
 
-      module _ {after : List ℕ} {flag : ℕ} (l : e < 64) (t : Stepped step columns book after e flag) where
-        pub on_flag : flag ≡ bit (moved (state start) (on_exposures step 64 (state start)) e)
-        on_flag = t.flag_is ∙ rw (t.stepped, o.reached) (ap bit (sym (pass_moved step p.local (state start) 64 e l)))
+      module _ {after : List ℕ} {flag : Bool} (l : e < 64) (t : Stepped step prices book after e flag) where
+        pub on_flag : flag ≡ moved (state start) (on_exposures step 64 (state start)) e
+        on_flag = t.told ∙ rw (t.stepped, o.reached) (sym (pass_moved step p.local (state start) 64 e l))
 
         pub on_missing : {x : ℕ} → x ≡ missing_of (state after) e → x ≡ missing_of (on_exposures step 64 (state start)) e
         on_missing h =

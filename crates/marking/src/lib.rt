@@ -1,19 +1,19 @@
 // Kind 10: the mark, three passes over the exposures.
 #![tactic(auto)]
 
-ghost use Rattle.std.specs.Prelude.{◌≡◌, true, cond, eqb, length};
+ghost use Rattle.std.specs.Prelude.{◌≡◌, true};
 ghost use Rattle.laws.specs.Filled.{filled};
+ghost use Rattle.laws.specs.Search.{count};
 ghost use Rattle.laws.specs.Sum.{sum};
-ghost use Rattle.book.specs.Layout.{book_length};
 ghost use Rattle.book.specs.State.{state};
-ghost use Rattle.eligibility.specs.Fresh.{FreshBaskets};
 ghost use Rattle.bonds.specs.Moves.{SoundBook};
 ghost use Rattle.rules.specs.Marking.{on_exposures, moved, ineligible_back, excess_back, shortfall_in, missing_of, marked};
 ghost use Rattle.rules.specs.Sound.{sound};
 ghost use Rattle.totals.specs.Totals.{totals_of};
-ghost use Rattle.marking.specs.Flags.{Flags, flags_of, count_with, count_of};
+ghost use Rattle.marking.specs.Flags.{FlagsOf, flagged_or};
 
 use book::Book;
+use eligibility::Prices;
 use totals::Totals;
 
 // What the second pass leaves: how many exposures gave back, in the first or in this one, and what is missing of each.
@@ -30,55 +30,44 @@ struct Searched {
     missing: u64,
 }
 
-// First pass: for each exposure, 1 where it gave back.
-fn give_all_ineligible(book: &mut Book, columns: &[u64; 256], since: &[u64; 16]) -> [u64; 64]
-    requires { SoundBook book.old columns.now × FreshBaskets (state book.old) since.now }
-    ensures { SoundBook book.new columns.now × (state book.new ≡ on_exposures ineligible_back 64 (state book.old)) × (result ≡ flags_of (moved (state book.old) (state book.new))) }
+// First pass. Which exposures gave back?
+fn give_all_ineligible(book: &mut Book, prices: &Prices) -> [bool; 64]
+    requires { SoundBook book.old prices.now }
+    ensures { SoundBook book.new prices.now × (state book.new ≡ on_exposures ineligible_back 64 (state book.old)) × FlagsOf (moved (state book.old) (state book.new)) result }
 {
-    let mut gave = [0u64; 64];
+    let mut gave = [false; 64];
     for e in 0..64 {
-        gave[e] = mark_steps::give_ineligible(book, columns, since, e);
+        gave[e] = mark_steps::give_ineligible(book, prices, e);
     }
     gave
 }
 
-// An exposure counts once, whether it gave back in the first pass, the second or both.
-fn either(first: u64, second: u64) -> u64
-    ensures { result ≡ cond (eqb first 0) second first }
-{
-    if first == 0 { second } else { first }
-}
-
-// Second pass: each exposure is freed and no more; what is missing is searched for when all are freed.
-fn free_all(book: &mut Book, columns: &[u64; 256], gave: &[u64; 64]) -> Freed
-    requires { SoundBook book.old columns.now × Flags gave.now }
-    ensures { SoundBook book.new columns.now × (state book.new ≡ on_exposures excess_back 64 (state book.old)) × (result.count ≡ count_with gave.now (moved (state book.old) (state book.new))) × (result.missing ≡ filled (missing_of (state book.new)) 64 64) }
+// Second pass: each exposure is freed and no more; what is missing is searched for when all are freed. An exposure counts once, whether
+// it gave back in the first pass, the second or both.
+fn free_all(book: &mut Book, prices: &Prices, gave: &[bool; 64]) -> Freed
+    requires { SoundBook book.old prices.now }
+    ensures { SoundBook book.new prices.now × (state book.new ≡ on_exposures excess_back 64 (state book.old)) × (result.count ≡ count (flagged_or gave.now (moved (state book.old) (state book.new))) 64 0) × (result.missing ≡ filled (missing_of (state book.new)) 64 64) }
 {
     let mut count: u64 = 0;
     let mut missing = [0u64; 64];
     for e in 0..64 {
-        let step = mark_steps::free_excess(book, columns, e);
-        count += either(gave[e], step.moved);
+        let step = mark_steps::free_excess(book, prices, e);
+        count += u64::from(gave[e] || step.moved);
         missing[e] = step.missing;
     }
     Freed { count, missing }
 }
 
 // Third pass.
-fn search_all(
-    book: &mut Book,
-    columns: &[u64; 256],
-    since: &[u64; 16],
-    missing: &[u64; 64],
-) -> Searched
-    requires { SoundBook book.old columns.now × (missing.now ≡ filled (missing_of (state book.old)) 64 64) × FreshBaskets (state book.old) since.now }
-    ensures { (state book.new ≡ on_exposures shortfall_in 64 (state book.old)) × (result.count ≡ count_of (moved (state book.old) (state book.new))) × (result.missing ≡ sum (missing_of (state book.new)) 64) }
+fn search_all(book: &mut Book, prices: &Prices, missing: &[u64; 64]) -> Searched
+    requires { SoundBook book.old prices.now × (missing.now ≡ filled (missing_of (state book.old)) 64 64) }
+    ensures { (state book.new ≡ on_exposures shortfall_in 64 (state book.old)) × (result.count ≡ count (moved (state book.old) (state book.new)) 64 0) × (result.missing ≡ sum (missing_of (state book.new)) 64) }
 {
     let mut count: u64 = 0;
     let mut after: u64 = 0;
     for e in 0..64 {
-        let step = mark_steps::search_missing(book, columns, since, e, missing[e]);
-        count += step.moved;
+        let step = mark_steps::search_missing(book, prices, e, missing[e]);
+        count += u64::from(step.moved);
         after += step.missing;
     }
     Searched {
@@ -92,12 +81,10 @@ pub fn mark(book: &mut Book) -> Totals
     requires { sound (state book.old) ≡ true }
     ensures { (result ≡ totals_of (marked (state book.old))) × (state book.new ≡ (marked (state book.old)).state) }
 {
-    let columns = book::columns(book);
-    let since = eligibility::fresh_since(book, &columns);
-    let gave = give_all_ineligible(book, &columns, &since);
-    let freed = free_all(book, &columns, &gave);
-    let missing = freed.missing;
-    let searched = search_all(book, &columns, &since, &missing);
+    let prices = Prices::of(book);
+    let gave = give_all_ineligible(book, &prices);
+    let freed = free_all(book, &prices, &gave);
+    let searched = search_all(book, &prices, &freed.missing);
     Totals {
         a: freed.count,
         b: searched.count,

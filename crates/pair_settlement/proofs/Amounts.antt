@@ -3,7 +3,7 @@
 use mathlib.Core.Path.{◌≡◌, sym, ◌∙◌}
 use Prim.Native.Nat.{ℕ, ◌+◌, ◌-◌, ◌≤◌, ◌<◌, min}
 use borrow.Author.Tests.{eq-eqb, ne_eqb, lt-ltb, le-ltb}
-use Rattle.book.specs.Layout.{tolerance, baskets_or_exposures, settled_amounts, partners, pair_partials, exposure_amounts}
+use Rattle.book.specs.Layout.{baskets_or_exposures, exposure_amounts}
 use Rattle.book.specs.State.{State, put}
 use Rattle.picking.specs.declared.Outcome.{Outcome}
 use Rattle.rules.specs.Requests.{rest_of, exposure_of_fop}
@@ -11,11 +11,6 @@ use Rattle.rules.specs.Settlement.{both_settled, return_amount, return_settled}
 use Rattle.rules.specs.Stock.{eligible_for, pick_for, free_for, pledge, give_back}
 use Rattle.settlement_laws.specs.Ways.{fop_amount, fop_settled, Way, return_way, fop_way, left}
 use Rattle.pair_settlement.specs.Pairs.{amount_for}
-
--- both rows and the exposure, written one after the other
-pub all_noted_lem : (s : State) (i x e y : ℕ) {p own other : ℕ} {t u v : State} → p ≡ s partners i → own ≡ s settled_amounts i → other ≡ s settled_amounts (p - 1)
-    → t ≡ put s settled_amounts i (own + x) → u ≡ put t settled_amounts (p - 1) (other + x) → v ≡ put u exposure_amounts e y → v ≡ put (both_settled s i x) exposure_amounts e y
-all_noted_lem s i x e y pq oq rq tq uq vq = rw (vq, uq, tq, oq, rq, pq)
 
 -- a return
 module _ (s : State) (i : ℕ) {e exposure : ℕ} (eq : e ≡ s baskets_or_exposures i) (wq : exposure ≡ s exposure_amounts e) {x : ℕ} where
@@ -25,18 +20,6 @@ module _ (s : State) (i : ℕ) {e exposure : ℕ} (eq : e ≡ s baskets_or_expos
   pub return_done : x ≡ return_amount s i → (x ≡ 0 → ⊥) → {t u : State} → t ≡ put (both_settled s i x) exposure_amounts e (exposure - x) → u ≡ give_back t e (free_for t e (exposure - x)).nominals → u ≡ left return_way s i
   unfolding return_settled
   return_done xq n tq uq = rw (ne_eqb (return_amount s i) 0 (λ z. n (xq ∙ z)), uq, tq, xq, wq, eq)
-
--- the cases of a FOP's amount
-module _ (s : State) (i rest found : ℕ) {tol : ℕ} (tq : tol ≡ s tolerance 0) where
-  pub settles_whole : rest - found < tol → rest ≡ amount_for s i rest found
-  settles_whole h = rw (lt-ltb (rest - found) (s tolerance 0) (rw tq at h))
-
-  module _ (h : tol ≤ rest - found) {p : ℕ} (pq : p ≡ s pair_partials i) where
-    pub settles_part : p ≡ 1 → found ≡ amount_for s i rest found
-    settles_part e = rw (le-ltb (rest - found) (s tolerance 0) (rw tq at h), eq-eqb (s pair_partials i) 1 (sym pq ∙ e))
-
-    pub settles_none : (p ≡ 1 → ⊥) → 0 ≡ amount_for s i rest found
-    settles_none n = rw (le-ltb (rest - found) (s tolerance 0) (rw tq at h), ne_eqb (s pair_partials i) 1 (λ e. n (pq ∙ e)))
 
 -- a FOP
 module _ (s : State) (i : ℕ) {e exposure rest : ℕ} (eq : e ≡ exposure_of_fop s i) (wq : exposure ≡ s exposure_amounts e) (rq : rest ≡ rest_of s i) where

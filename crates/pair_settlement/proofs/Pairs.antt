@@ -3,11 +3,11 @@
 use mathlib.Core.Path.{◌≡◌, refl}
 use mathlib.Core.Bool.{true}
 use mathlib.Core.List.{List}
-use Prim.Native.Nat.{ℕ, ◌+◌, ◌-◌, ◌≤◌, ◌<◌}
+use Prim.Native.Nat.{ℕ, ◌≤◌, ◌<◌}
 use native.Mathlib.Omega.{arith}
 use lib.Dec.{eqb}
 use borrow.Author.Tests.{eqb-false, not-true}
-use Rattle.book.specs.Layout.{request_kinds, settled_amounts, partners, in_use, exposure_amounts}
+use Rattle.book.specs.Layout.{request_kinds, partners, in_use, exposure_amounts}
 use Rattle.book.specs.State.{State, put, columns_of}
 use Rattle.rules.specs.Requests.{is_paired, rest_of}
 use Rattle.rules.specs.Settlement.{both_settled}
@@ -66,7 +66,3 @@ module _ {s : State} (g : Good s) where
 
   pub exposure_le : (e : ℕ) → e < 64 → s in_use e ≡ 1 → s exposure_amounts e ≤ 10000000000000
   exposure_le e l u = (used_exposure s e (g.facts.exposure e l) u).amount
-
--- the partner's row by the number that names it
-pub partner_room : (s : State) (i x : ℕ) {p other : ℕ} → Settleable s i x → p ≡ s partners i → other ≡ s settled_amounts (p - 1) → other + x ≤ 1000000000000
-partner_room s i x h pq oq = rw (oq, pq) h.other

@@ -1,9 +1,9 @@
 // One pair: what settles of a return or a FOP, and the book that it leaves.
 #![tactic(auto)]
 
-ghost use Rattle.std.specs.Prelude.{◌≡◌, ◌<◌, ◌≤◌, length};
-ghost use Rattle.eligibility.specs.Fresh.{FreshBaskets};
-ghost use Rattle.book.specs.Layout.{settled_amounts, amounts, exposure_amounts, book_length};
+ghost use Rattle.std.specs.Prelude.{◌≡◌, ◌<◌, ◌≤◌};
+ghost use Rattle.eligibility.specs.Fresh.{PricesOf};
+ghost use Rattle.book.specs.Layout.{settled_amounts, amounts, exposure_amounts};
 ghost use Rattle.book.specs.State.{state, put, columns_of};
 ghost use Rattle.facts.specs.Good.{Good};
 ghost use Rattle.rules.specs.Requests.{rest_of, exposure_of_fop};
@@ -13,6 +13,8 @@ ghost use Rattle.pair_settlement.specs.Pairs.{Settleable, amount_for};
 
 use book::Book;
 use book::layout::Table;
+use eligibility::Prices;
+use exposure_search::ExposureKey;
 use limits::GREATEST_EXPOSURE;
 
 // What is left to settle.
@@ -37,33 +39,33 @@ fn note_settled(book: &mut Book, i: usize, x: u64, e: usize, exposure: u64)
 }
 
 // Settles a return: the lesser of its rest and the exposure, which is lowered and freed. The cents settled.
-pub fn settle_return(book: &mut Book, columns: &[u64; 256], i: usize) -> u64
-    requires { Good (state book.old) × PairOf (state book.old) 7 i × (columns.now ≡ columns_of (state book.old)) }
+pub fn settle_return(book: &mut Book, prices: &Prices, i: usize) -> u64
+    requires { Good (state book.old) × PairOf (state book.old) 7 i × (prices.now.columns ≡ columns_of (state book.old)) }
     ensures { (result ≡ return_amount (state book.old) i) × (state book.new ≡ left return_way (state book.old) i) }
 {
     let e = book::get(book, Table::BasketsOrExposures, i) as usize;
     let exposure = book::get(book, Table::ExposureAmounts, e);
-    let x = parcels::smaller(rest_of(book, i), exposure);
+    let x = rest_of(book, i).min(exposure);
     if x == 0 {
         return 0;
     }
     note_settled(book, i, x, e, exposure - x);
-    bonds::free_down(book, columns, e, exposure - x);
+    bonds::free_down(book, prices, e, exposure - x);
     x
 }
 
 // The exposure that a FOP pair belongs to.
 fn exposure_of_fop(book: &Book, i: usize) -> usize
-    requires { i < 256 }
+    requires { (i < 256) × (exposure_of_fop (state book.now) i < 64) }
     ensures { result ≡ exposure_of_fop (state book.now) i }
 {
-    exposure_search::exposure_with(
-        book,
-        book::get(book, Table::Givers, i),
-        book::get(book, Table::Takers, i),
-        book::get(book, Table::BasketsOrExposures, i),
-        book::get(book, Table::Closings, i),
-    )
+    let key = ExposureKey {
+        giver: book::get(book, Table::Givers, i),
+        taker: book::get(book, Table::Takers, i),
+        basket: book::get(book, Table::BasketsOrExposures, i),
+        closing: book::get(book, Table::Closings, i),
+    };
+    exposure_search::exposure_with(book, key).unwrap()
 }
 
 // What a FOP settles of its rest, for the value found: all of it where less than the tolerance is missing, else what was found,
@@ -83,8 +85,8 @@ fn amount_for(book: &Book, i: usize, rest: u64, found: u64) -> u64
 }
 
 // Settles a FOP: Picks its rest, and the exposure grows by what settles. The cents settled.
-pub fn settle_fop(book: &mut Book, columns: &[u64; 256], since: &[u64; 16], i: usize) -> u64
-    requires { Good (state book.old) × PairOf (state book.old) 6 i × (columns.now ≡ columns_of (state book.old)) × FreshBaskets (state book.old) since.now }
+pub fn settle_fop(book: &mut Book, prices: &Prices, i: usize) -> u64
+    requires { Good (state book.old) × PairOf (state book.old) 6 i × PricesOf (state book.old) prices.now }
     ensures { (result ≡ fop_amount (state book.old) i) × (state book.new ≡ left fop_way (state book.old) i) }
 {
     let e = exposure_of_fop(book, i);
@@ -93,13 +95,12 @@ pub fn settle_fop(book: &mut Book, columns: &[u64; 256], since: &[u64; 16], i: u
     if GREATEST_EXPOSURE < exposure + rest {
         return 0;
     }
-    let outcome = bonds::pick_for(book, columns, since, e, rest);
+    let outcome = bonds::pick_for(book, prices, e, rest);
     let x = amount_for(book, i, rest, outcome.value);
     if x == 0 {
         return 0;
     }
     note_settled(book, i, x, e, exposure + x);
-    let nominals = outcome.nominals;
-    bonds::pledge(book, e, &nominals);
+    bonds::pledge(book, e, &outcome.nominals);
     x
 }

@@ -21,9 +21,11 @@ use Rattle.totals.specs.declared.Totals.{Totals}
 use Rattle.totals.specs.Totals.{totals_of}
 use Rattle.eligibility.specs.Fresh.{SamePrices}
 use Rattle.eligibility.proofs.Fresh.{same_start, same_prices, same_then}
-use Rattle.due_pairs.specs.Due.{no_key, Collected, least_from}
+use Rattle.std.specs.Prelude.{Some, None}
+use Rattle.due_pairs.specs.Due.{Collected, least_from}
+use Rattle.due_pairs.specs.declared.DueKeys.{DueKeys}
 use Rattle.due_pairs.proofs.Keys.{number_small}
-use Rattle.due_pairs.proofs.Next.{Ahead, ahead_next, none_left, some_left, next_row, next_order, next_fits}
+use Rattle.due_pairs.proofs.Next.{Ahead, ahead_next, none_left, some_left, next_row, next_order, next_fits, next_later}
 use Rattle.settlement_laws.specs.Ways.{PairOf, fop_settled, Way, fop_way, way_of, settle_by, left}
 use Rattle.settlement_laws.proofs.Finding.{due_in, in_due, due_few, due_pair, due_sorted}
 use Rattle.settlement_laws.proofs.Keeping.{AsWay, return_way_lem, fop_way_lem, left_holds, by_left, next_good, next_lined, fops_stay, settlement_by}
@@ -140,33 +142,29 @@ module _ {kind : ℕ} {s₀ : State} {t₀ : Totals} {n last : ℕ} {s : State} 
   unfolding settle_each
   passed l w = record { reached = w.leads; good = w.good; prices = w.prices; within = within_all l w.within }
 
-  -- all turns are taken
-  pub underway_ends : n ≤ 256 → 256 ≤ n → (rows : List ℕ) → Underway kind s₀ t₀ n last s t rows → Passed kind s₀ t₀ s t
-  underway_ends l h [] w = passed l w
-  underway_ends l h (i ∷ rows) w = absurd (omega (arith, w.few))
-
   -- the least of the keys collected when the pass began is that of the first row left
-  module _ (g₀ : Good s₀) {keys : List ℕ} {count : ℕ} (c : Collected s₀ kind 256 keys count) {key : ℕ} (q : key ≡ least_from ((last + 1) * 256) no_key (take count keys)) where
-    pub underway_done : n ≤ 256 → key ≡ no_key → (rows : List ℕ) → Underway kind s₀ t₀ n last s t rows → Passed kind s₀ t₀ s t
-    underway_done l z [] w = passed l w
-    underway_done l z (i ∷ rows) w = absurd (some_left last g₀ c q w.ahead z)
+  module _ (g₀ : Good s₀) {due : DueKeys} (c : Collected s₀ kind 256 due) where
+    pub underway_done : None ≡ least_from ((last + 1) * 256) (take due.count due.keys) → (rows : List ℕ) → Underway kind s₀ t₀ n last s t rows → Passed kind s₀ t₀ s t
+    underway_done q [] w = passed (omega (arith, w.few)) w
+    underway_done q (i ∷ rows) w = absurd (some_left last g₀ c w.ahead q)
 
-    module _ (z : Differ key no_key) where
+    module _ {key : ℕ} (q : Some key ≡ least_from ((last + 1) * 256) (take due.count due.keys)) where
       pub next_pair : (rows : List ℕ) → Underway kind s₀ t₀ n last s t rows → PairOf s kind (key % 256)
-      next_pair [] w = absurd (z (none_left last g₀ c q w.ahead))
-      next_pair (i ∷ rows) w = rw (next_row last g₀ c q w.ahead) (due_pair (w.lined.due i (inl refl)))
+      next_pair [] w = absurd (none_left last g₀ c w.ahead q)
+      next_pair (i ∷ rows) w = rw (next_row last g₀ c w.ahead q) (due_pair (w.lined.due i (inl refl)))
 
-      pub next_small : (rows : List ℕ) → Underway kind s₀ t₀ n last s t rows → key / 256 < 72057594037927935
-      next_small [] w = absurd (z (none_left last g₀ c q w.ahead))
-      next_small (i ∷ rows) w = next_fits last g₀ c q w.ahead
+      -- its place in the order is after the last
+      pub next_place : (rows : List ℕ) → Underway kind s₀ t₀ n last s t rows → (last < key / 256) × (key / 256 < 72057594037927935)
+      next_place [] w = absurd (none_left last g₀ c w.ahead q)
+      next_place (i ∷ rows) w = (next_later last g₀ c w.ahead q, next_fits last g₀ c w.ahead q)
 
       -- one pair more
       pub underway_next : {u : State} {r : Totals} → Alike (begun u r) (settle_by (way_of kind) (begun s t) (key % 256)) → Within t 1 r
           → (rows : List ℕ) → Underway kind s₀ t₀ n last s t rows → (rest : List ℕ) × Underway kind s₀ t₀ (n + 1) (key / 256) u r rest
       unfolding settle_each
-      underway_next a m [] w = absurd (z (none_left last g₀ c q w.ahead))
+      underway_next a m [] w = absurd (none_left last g₀ c w.ahead q)
       underway_next {u} {r} a m (i ∷ rows) w =
-          let b : Alike (begun u r) (settle_by (way_of kind) (begun s t) i) = rw (next_row last g₀ c q w.ahead) at a in
+          let b : Alike (begun u r) (settle_by (way_of kind) (begun s t) i) = rw (next_row last g₀ c w.ahead q) at a in
           let uq : u ≡ left (way_of kind) s i = b.state ∙ by_left (way_of kind) (begun s t) i in
           let p = due_pair (w.lined.due i (inl refl)) in (
             rows,
@@ -176,7 +174,7 @@ module _ {kind : ℕ} {s₀ : State} {t₀ : Totals} {n last : ℕ} {s : State} 
               within = within_next w.within m;
               few = omega (arith, w.few);
               lined = rw uq (next_lined (way_of_lem kind) w.good w.lined);
-              ahead = rw (next_order last g₀ c q w.ahead) (ahead_next w.ahead);
+              ahead = rw (next_order last g₀ c w.ahead q) (ahead_next w.ahead);
               leads = alike_then (alike_each (way_of kind) rows b) w.leads;
             },
           )

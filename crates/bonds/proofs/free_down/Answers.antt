@@ -3,19 +3,9 @@
 use Rattle.book.specs.State.{state}
 use Rattle.bonds.proofs.Ready.{free_gives_back}
 use Rattle.bonds.proofs.Steps.{freed_for}
-use borrow.Author.Rules.{rules}
 use Rattle.bonds.proofs.free_down.Goals as goal
-
-pub free-freed-requires : goal.free-freed-requires
-free-freed-requires c =
-    (rw c.requires.1 c.requires.0.bounded, rw c.row_at-position.ensures c.requires.0.within)
 
 pub give_back-requires : goal.give_back-requires
 give_back-requires c =
     let freed = freed_for (state c.args.book.now) c.args.e c.args.amount c.requires.1 c.row_at-position.ensures c.free-freed.ensures in
     rw freed (free_gives_back (state c.args.book.now) c.args.e c.args.amount c.requires.0)
-
-pub returns : goal.returns
-returns c =
-    let freed = freed_for (state c.args.book.now) c.args.e c.args.amount c.requires.1 c.row_at-position.ensures c.free-freed.ensures in
-    rw (c.give_back.ensures, freed)

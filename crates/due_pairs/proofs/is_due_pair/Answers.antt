@@ -1,8 +1,6 @@
 -- `due_pairs::is_due_pair` meets its contract.
 -- Assumes nothing.
-use native.Mathlib.Omega.{arith}
 use Rattle.due_pairs.proofs.Returns.{no_number, no_partner, has_ended, is_whole, is_earlier, by_day, partner_row}
-use borrow.Author.Rules.{rules}
 use Rattle.due_pairs.proofs.is_due_pair.Goals as goal
 
 pub returns-then-number-eq0 : goal.returns-then-number-eq0

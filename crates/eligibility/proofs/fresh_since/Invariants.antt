@@ -1,7 +1,7 @@
 -- `eligibility::fresh_since` meets its contract: the baskets below `b` have their day.
 -- Assumes nothing.
 use mathlib.Core.Path.{◌≡◌}
-use Prim.Native.Nat.{◌-◌, ◌≤◌}
+use Prim.Native.Nat.{◌≤◌}
 use lib.ListN.{get_or}
 use Rattle.laws.specs.Filled.{filled}
 use Rattle.book.specs.Layout.{greatest_ages}

@@ -1,6 +1,6 @@
 -- `eligibility::greatest_age` meets its contract: no basket below `b` takes an older price.
 -- Assumes nothing.
-use Prim.Native.Nat.{◌-◌, ◌≤◌}
+use Prim.Native.Nat.{◌≤◌}
 use Rattle.book.specs.State.{state}
 use Rattle.eligibility.specs.Fresh.{Aged}
 use Rattle.eligibility.proofs.greatest_age.Given as goal

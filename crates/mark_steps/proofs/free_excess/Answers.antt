@@ -1,6 +1,5 @@
 -- `mark_steps::free_excess` meets its contract: Free tells the value of what is left.
 -- Assumes nothing.
-use mathlib.Core.Path.{◌∙◌}
 use Rattle.bonds.proofs.Rows.{bounded, row_within}
 use Rattle.book.specs.State.{state}
 use Rattle.rules.specs.Marking.{excess_back}
@@ -23,5 +22,5 @@ give_any_back-moved-requires c =
 pub returns : goal.returns
 returns c = (
   excess_step c.requires.0 c.requires.1 c.fits-book c.get.ensures c.if-get-ne1.false c.row_at-position.ensures c.get-amount.ensures c.free-freed.ensures c.give_any_back-moved.array_long c.give_any_back-moved.ensures,
-  excess_missing c.requires.0 c.requires.1 c.fits-book c.get.ensures c.if-get-ne1.false c.row_at-position.ensures c.get-amount.ensures c.free-freed.ensures c.give_any_back-moved.ensures.0 c.missing_from.ensures,
+  excess_missing c.requires.0 c.requires.1 c.fits-book c.get.ensures c.if-get-ne1.false c.row_at-position.ensures c.get-amount.ensures c.free-freed.ensures c.give_any_back-moved.ensures.0 c.saturating_sub.ensures,
 )

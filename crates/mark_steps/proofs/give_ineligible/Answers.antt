@@ -1,6 +1,6 @@
 -- `mark_steps::give_ineligible` meets its contract: where all may stay nothing moves, and else all that is not eligible does.
 -- Assumes nothing.
-use mathlib.Core.Path.{refl, ◌∙◌}
+use mathlib.Core.Path.{refl}
 use Rattle.rules.specs.Marking.{ineligible_back}
 use Rattle.mark_steps.proofs.Steps.{unused_step, ineligible_gives, stays_step, gives_step}
 use Rattle.bonds.proofs.Rows.{bounded, basket_below}
@@ -12,7 +12,7 @@ returns-then-get-ne1 c =
 
 pub eligibility_of-x-requires : goal.eligibility_of-x-requires
 eligibility_of-x-requires c =
-    (c.requires.1, basket_below c.requires.0 c.requires.1 c.get.ensures c.if-get-ne1.false, c.requires.2)
+    (c.requires.1, basket_below c.requires.0 c.requires.1 c.get.ensures c.if-get-ne1.false, c.requires.0.priced)
 
 pub may_all_stay-requires : goal.may_all_stay-requires
 may_all_stay-requires c =

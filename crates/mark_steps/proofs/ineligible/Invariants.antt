@@ -1,7 +1,7 @@
 -- `mark_steps::ineligible` meets its contract: the securities below `i` are looked at.
 -- Assumes nothing.
 use mathlib.Core.Path.{◌≡◌}
-use Prim.Native.Nat.{◌-◌, ◌≤◌}
+use Prim.Native.Nat.{◌≤◌}
 use Rattle.laws.specs.Filled.{filled}
 use Rattle.mark_steps.specs.Stepped.{ineligible_in}
 use Rattle.mark_steps.proofs.ineligible.Given as goal

@@ -1,18 +1,11 @@
--- `mark_steps::may_all_stay` meets its contract: those below `i` may stay.
+-- `mark_steps::may_all_stay` meets its contract.
 -- Assumes nothing.
-use mathlib.Core.Path.{refl}
-use native.Mathlib.Omega.{arith}
-use Rattle.laws.proofs.Least.{loop_fails, loop_passes, loop_ends}
+use borrow.Author.Rules.{rules}
+use Rattle.laws.proofs.Ranges.{all_over_range}
+use Rattle.book.specs.State.{state}
+use Rattle.rules.specs.Stock.{position_of}
+use Rattle.mark_steps.specs.Stepped.{may_stay}
 use Rattle.mark_steps.proofs.may_all_stay.Goals as goal
 
-pub loop-i-init : goal.loop-i-init
-loop-i-init c = (omega arith, record { decides = refl })
-
-pub returns-then-not-may_stay : goal.returns-then-not-may_stay
-returns-then-not-may_stay c = search loop_fails
-
-pub loop-i-preserved : goal.loop-i-preserved
-loop-i-preserved c = (omega arith, search loop_passes)
-
 pub returns : goal.returns
-returns c = search loop_ends
+returns c = all_over_range (may_stay (position_of (state c.args.book.now) c.args.e) c.args.columns.now c.args.x) _ _ _ c.all.ensures.ran (λ x b q k. search rules)

@@ -6,5 +6,5 @@ use Rattle.mark_steps.proofs.may_stay.Goals as goal
 pub returns-then-get-eq0 : goal.returns-then-get-eq0
 returns-then-get-eq0 c = search none_held
 
-pub returns : goal.returns
-returns c = search some_held
+pub returns-else-get-eq0 : goal.returns-else-get-eq0
+returns-else-get-eq0 c = search some_held

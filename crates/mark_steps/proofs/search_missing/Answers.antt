@@ -1,6 +1,7 @@
 -- `mark_steps::search_missing` meets its contract: a number that is missing tells that the exposure is used.
 -- Assumes nothing.
-use mathlib.Core.Path.{sym, ◌∙◌}
+use mathlib.Core.Path.{sym}
+use mathlib.Core.Bool.{true}
 use borrow.Author.Tests.{eq-eqb, ne_eqb}
 use Rattle.bonds.proofs.Ready.{good_pickable}
 use Rattle.bonds.proofs.Rows.{bounded, good_of, row_within}
@@ -15,7 +16,7 @@ use Rattle.mark_steps.proofs.search_missing.Goals.{After-pledge}
 
 -- what was found has come in
 taken_in : (c : After-pledge)
-    → Stepped shortfall_in c.args.columns.now c.args.book.now c.pledge.new.book c.args.e 1
+    → Stepped shortfall_in c.args.prices.now c.args.book.now c.pledge.new.book c.args.e true
 taken_in c =
     search_step c.requires.0 c.requires.1 c.fits-book c.requires.2 c.if-missing-eq0.false c.pick_for-found.ensures c.pledge.array_long
     (some_pledged (state c.args.book.now) c.args.e c.pick_for-found.result.nominals (sym (pick_empty _ _ _ _ c.pick_for-found.ensures)) (ne_eqb c.pick_for-found.result.count 0 c.if-found-eq0.false) c.pledge.ensures)
@@ -27,7 +28,7 @@ returns-then-missing-eq0 c =
 pub pick_for-found-requires : goal.pick_for-found-requires
 pick_for-found-requires c =
     let m = c.requires.0 in
-    (good_pickable _ _ (good_of m c.fits-book) c.requires.1 (lacking_used (state c.args.book.now) c.args.e c.requires.2 c.if-missing-eq0.false), m.securities, c.requires.3)
+    (good_pickable _ _ (good_of m c.fits-book) c.requires.1 (lacking_used (state c.args.book.now) c.args.e c.requires.2 c.if-missing-eq0.false), m.priced)
 
 pub returns-then-found-eq0 : goal.returns-then-found-eq0
 returns-then-found-eq0 c = (
@@ -48,4 +49,4 @@ worth_of-value-requires c =
 pub returns : goal.returns
 returns c =
     let t = taken_in (goal.at.returns c).After-pledge in
-    (t, search_missing_is c.requires.0 c.requires.1 c.fits-book c.requires.2 c.if-missing-eq0.false c.pick_for-found.ensures t c.row_at-position.ensures c.worth_of-value.ensures c.get-exposure.ensures c.missing_from.ensures)
+    (t, search_missing_is c.requires.0 c.requires.1 c.fits-book c.requires.2 c.if-missing-eq0.false c.pick_for-found.ensures t c.row_at-position.ensures c.worth_of-value.ensures c.get-exposure.ensures c.saturating_sub.ensures)

@@ -2,13 +2,12 @@
 -- Assumes nothing.
 use mathlib.Core.Path.{◌≡◌}
 use mathlib.Core.Bool.{Bool}
-use Prim.Native.Nat.{ℕ, ◌-◌, ◌≤◌}
-use lib.ListN.{get_or}
+use Prim.Native.Nat.{ℕ, ◌≤◌}
 use Rattle.laws.specs.Filled.{filled}
-use Rattle.laws.specs.Sum.{sum}
+use Rattle.laws.specs.Search.{count}
 use Rattle.book.specs.State.{State, state}
 use Rattle.rules.specs.Marking.{on_exposures, moved, excess_back, missing_of}
-use Rattle.marking.specs.Flags.{or_flag}
+use Rattle.marking.specs.Flags.{flagged_or}
 use Rattle.marking.proofs.Passing.{On}
 use Rattle.marking.proofs.free_all.Given as goal
 
@@ -22,7 +21,6 @@ gives s e = moved s (after s) e
 abbrev pub invariant-loop-e : goal.invariant-loop-e
 invariant-loop-e l =
     (l.e ≤ 64)
-    × On excess_back l.columns l.initial.book l.book l.e
-    × (l.count ≡ sum (λ j. or_flag (get_or l.gave j 0) (gives (state l.initial.book) j)) l.e)
-    × (l.count ≤ l.e)
+    × On excess_back l.prices l.initial.book l.book l.e
+    × (l.count ≡ count (flagged_or l.gave (gives (state l.initial.book))) l.e 0)
     × (l.missing ≡ filled (missing_of (after (state l.initial.book))) 64 l.e)

@@ -2,10 +2,10 @@
 -- Assumes nothing.
 use mathlib.Core.Path.{◌≡◌}
 use mathlib.Core.Bool.{Bool}
-use Prim.Native.Nat.{ℕ, ◌-◌, ◌*◌, ◌≤◌}
+use Prim.Native.Nat.{ℕ, ◌*◌, ◌≤◌}
+use Rattle.laws.specs.Search.{count}
 use Rattle.laws.specs.Sum.{sum}
 use Rattle.book.specs.State.{State, state}
-use Rattle.mark_steps.specs.Stepped.{bit}
 use Rattle.rules.specs.Marking.{on_exposures, moved, shortfall_in, missing_of}
 use Rattle.marking.proofs.Passing.{On}
 use Rattle.marking.proofs.search_all.Given as goal
@@ -20,8 +20,7 @@ takes s e = moved s (after s) e
 abbrev pub invariant-loop-e : goal.invariant-loop-e
 invariant-loop-e l =
     (l.e ≤ 64)
-    × On shortfall_in l.columns l.initial.book l.book l.e
-    × (l.count ≡ sum (λ j. bit (takes (state l.initial.book) j)) l.e)
-    × (l.count ≤ l.e)
+    × On shortfall_in l.prices l.initial.book l.book l.e
+    × (l.count ≡ count (takes (state l.initial.book)) l.e 0)
     × (l.after ≡ sum (missing_of (after (state l.initial.book))) l.e)
     × (l.after ≤ 10000000000000 * l.e)

@@ -14,7 +14,6 @@ use Rattle.settlement_laws.proofs.Finding.{exposure_used}
 use Rattle.settlement_laws.proofs.Settling.{fop_within, fop_below}
 use Rattle.pair_settlement.proofs.Amounts.{fop_waits, fop_amount_lem, fop_done, none_settles}
 use Rattle.pair_settlement.proofs.Pairs.{pair_fields, rest_le, settleable, exposure_le, pledging_noted}
-use borrow.Author.Rules.{rules}
 use Rattle.pair_settlement.proofs.settle_fop.Goals as goal
 use Rattle.pair_settlement.proofs.settle_fop.Goals.{After-amount_for-x, After-exposure_of_fop-e, After-get-exposure}
 
@@ -40,12 +39,16 @@ settles-le : (c : After-amount_for-x) → c.amount_for-x.result ≤ c.rest_of-re
 settles-le c =
     rw (settles c, c.rest_of-rest.ensures) (fop_within (state c.args.book.now) c.args.i)
 
+pub exposure_of_fop-e-requires : goal.exposure_of_fop-e-requires
+exposure_of_fop-e-requires c =
+    (c.requires.1.below, fop_below c.requires.0 c.requires.1)
+
 pub get-exposure-requires : goal.get-exposure-requires
 get-exposure-requires c = target_below c
 
 pub rest_of-rest-requires : goal.rest_of-rest-requires
 rest_of-rest-requires c =
-    (search rules, (pair_fields c.requires.0 c.requires.1).settled)
+    (c.requires.1.below, (pair_fields c.requires.0 c.requires.1).settled)
 
 pub overflow_add-exposure : goal.overflow_add-exposure
 overflow_add-exposure c =
@@ -59,12 +62,12 @@ returns-then-exposure-rest-gt-GREATEST_EXPOSURE c =
 
 pub pick_for-outcome-requires : goal.pick_for-outcome-requires
 pick_for-outcome-requires c =
-    (good_pickable (state c.args.book.now) c.exposure_of_fop-e.result c.requires.0 (target_below (goal.at.pick_for-outcome-requires c).After-exposure_of_fop-e) (target-used (goal.at.pick_for-outcome-requires c).After-exposure_of_fop-e), c.requires.2, c.requires.3)
+    (good_pickable (state c.args.book.now) c.exposure_of_fop-e.result c.requires.0 (target_below (goal.at.pick_for-outcome-requires c).After-exposure_of_fop-e) (target-used (goal.at.pick_for-outcome-requires c).After-exposure_of_fop-e), c.requires.2)
 
 pub amount_for-x-requires : goal.amount_for-x-requires
 amount_for-x-requires c =
     let st = state c.args.book.now in
-    (search rules, rw c.pick_for-outcome.ensures (pick_value st c.exposure_of_fop-e.result (eligible_for st c.exposure_of_fop-e.result) c.rest_of-rest.result))
+    (c.requires.1.below, rw c.pick_for-outcome.ensures (pick_value st c.exposure_of_fop-e.result (eligible_for st c.exposure_of_fop-e.result) c.rest_of-rest.result))
 
 pub returns-then-x-eq0 : goal.returns-then-x-eq0
 returns-then-x-eq0 c =
