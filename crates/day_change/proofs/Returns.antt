@@ -1,19 +1,31 @@
--- What each return of the code shows: there may be no next day.
+-- What the outcome of the test for a next day shows: there may be none.
 -- Assumes nothing.
-use mathlib.Core.Path.{◌≡◌}
-use Prim.Native.Nat.{ℕ, ◌≤◌, ◌<◌}
-use borrow.Author.Tests.{lt-ltb, le-ltb}
-use Rattle.calendar.specs.Target.{last_day, next_open_day}
+use mathlib.Core.Path.{◌≡◌, refl}
+use mathlib.Core.Bool.{Bool, true, false, cond}
+use Prim.Native.Nat.{ℕ}
+use lib.Dec.{leb}
+use native.Mathlib.Omega.{arith}
+use borrow.Author.Tests.{leb-true, leb-false, lt-ltb, le-ltb}
+use Rattle.std.specs.Prelude.{Option, Some, None}
+use Rattle.calendar.specs.Target.{last_day, next_open_day, open_day_after}
 use Rattle.book.specs.Layout.{today}
 use Rattle.book.specs.State.{State}
 use Rattle.rules.specs.Codes.{next_day_rules}
 use Rattle.rules.specs.Outcome.{lowest}
 
-module _ (s : State) {t d : ℕ} (tq : t ≡ s today 0) (dq : d ≡ next_open_day t) where
-  pub no_next_day : last_day < d → 7 ≡ lowest (next_day_rules s)
+module _ (s : State) {t : ℕ} (tq : t ≡ s today 0) where
+  pub no_next_day : None ≡ open_day_after t → 7 ≡ lowest (next_day_rules s)
   unfolding next_day_rules
-  no_next_day l = rw (← tq, ← dq, lt-ltb last_day d l)
+  no_next_day h = go (leb (next_open_day t) last_day) refl h
+    where
+      go : (b : Bool) → leb (next_open_day t) last_day ≡ b → None ≡ cond b (Some (next_open_day t)) None → 7 ≡ lowest (next_day_rules s)
+      go true e h = absurd (cc)
+      go false e h = rw (← tq, lt-ltb last_day (next_open_day t) (leb-false (next_open_day t) last_day e))
 
-  pub a_next_day : d ≤ last_day → 0 ≡ lowest (next_day_rules s)
+  pub a_next_day : {n : ℕ} → Some n ≡ open_day_after t → 0 ≡ lowest (next_day_rules s)
   unfolding next_day_rules
-  a_next_day l = rw (← tq, ← dq, le-ltb last_day d l)
+  a_next_day {n} h = go (leb (next_open_day t) last_day) refl h
+    where
+      go : (b : Bool) → leb (next_open_day t) last_day ≡ b → Some n ≡ cond b (Some (next_open_day t)) None → 0 ≡ lowest (next_day_rules s)
+      go true e h = rw (← tq, le-ltb last_day (next_open_day t) (leb-true (next_open_day t) last_day e))
+      go false e h = absurd (cc)

@@ -2,6 +2,7 @@
 #![tactic(auto)]
 
 ghost use Rattle.std.specs.Prelude.{◌≡◌, true, ◌<◌, length};
+ghost use Rattle.answers.specs.Refusals.{outcome_code};
 ghost use Rattle.calendar.specs.Target.{next_open_day};
 ghost use Rattle.book.specs.Layout.{book_length, table_count, rows_of, width_of, today};
 ghost use Rattle.book.specs.Tables.{number};
@@ -14,22 +15,22 @@ ghost use Rattle.totals.specs.Totals.{totals_of};
 ghost use Rattle.day_rows.specs.Parts.{tried};
 ghost use Rattle.day_change.specs.Parts.{profile_waits};
 
+use answers::Refusal;
 use book::Book;
 use book::layout::{Table, WAITING_TABLES};
-use calendar::LAST_DAY;
 use day_rows::Pass;
 use totals::Totals;
 
-// 12: the code. There may be no next day.
-pub fn next_day_code(book: &Book) -> u64
+// 12: is there a next day?
+pub fn check_next_day(book: &Book) -> Result<(), Refusal>
     requires { sound (state book.now) ≡ true }
-    ensures { result ≡ lowest (next_day_rules (state book.now)) }
+    ensures { outcome_code result ≡ lowest (next_day_rules (state book.now)) }
 {
     let today = book::get(book, Table::Today, 0);
-    if LAST_DAY < calendar::next_open_day(today) {
-        return 7;
+    match calendar::open_day_after(today) {
+        Some(_) => Ok(()),
+        None => Err(Refusal::BadDay),
     }
-    0
 }
 
 // Copies a row's number from one table to another.

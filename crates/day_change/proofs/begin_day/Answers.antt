@@ -19,7 +19,7 @@ next_open_day-next-requires c =
 pub set-requires : goal.set-requires
 set-requires c =
     let day = c.next_open_day-next.ensures ∙ ap next_open_day c.get-today.ensures in
-    (search rules, omega arith, omega arith, omega (arith, day, next_day_within (state c.args.book.now) c.requires.1))
+    (omega arith, omega (arith, day, next_day_within (state c.args.book.now) c.requires.1))
 
 pub returns : goal.returns
 unfolding on_next_day

@@ -14,21 +14,20 @@ use Rattle.day_change.proofs.change_profiles.Goals as goal
 pub loop-p-init : goal.loop-p-init
 loop-p-init c =
     let first = state c.args.book.now in
-    (omega arith, (omega arith), sym (no_turn (profile_waits first) change_takes_effect first))
+    (omega arith, sym (no_turn (profile_waits first) change_takes_effect first))
 
 pub change_profile-requires : goal.change_profile-requires
-change_profile-requires c = (c.loop-p.invariant.1, omega arith)
+change_profile-requires c = omega arith
 
 pub loop-p-preserved : goal.loop-p-preserved
 loop-p-preserved c =
     let first = state c.args.book.now in (
       omega arith,
-      search rules,
-      loop_steps profile_waits change_takes_effect profiles_apart first c.loop-p.p c.loop-p.invariant.2 c.change_profile.ensures,
+      loop_steps profile_waits change_takes_effect profiles_apart first c.loop-p.p c.loop-p.invariant.1 c.change_profile.ensures,
     )
 
 pub returns : goal.returns
 unfolding profiles_changed
 returns c =
     let e : c.loop-p.p ≡ 32 = omega arith in
-    rw (← e) c.loop-p.invariant.2
+    rw (← e) c.loop-p.invariant.1

@@ -2,12 +2,10 @@
 -- Assumes nothing.
 use mathlib.Core.Path.{◌≡◌}
 use Prim.Native.Nat.{◌-◌, ◌≤◌}
-use lib.ListN.{length}
-use Rattle.book.specs.Layout.{book_length}
 use Rattle.book.specs.State.{state}
 use Rattle.rules.specs.DayChange.{on_each, change_takes_effect}
 use Rattle.day_change.specs.Parts.{profile_waits}
 use Rattle.day_change.proofs.change_profiles.Given as goal
 
 abbrev pub invariant-loop-p : goal.invariant-loop-p
-invariant-loop-p l = (l.p ≤ 32) × (length l.book ≡ book_length) × (state l.book ≡ on_each (profile_waits (state l.initial.book)) change_takes_effect l.p (state l.initial.book))
+invariant-loop-p l = (l.p ≤ 32) × (state l.book ≡ on_each (profile_waits (state l.initial.book)) change_takes_effect l.p (state l.initial.book))

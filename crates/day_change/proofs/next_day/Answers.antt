@@ -9,19 +9,19 @@ use Rattle.day_change.proofs.next_day.Goals as goal
 pub begin_day-day-requires : goal.begin_day-day-requires
 begin_day-day-requires c =
     let fit = may_begin c.args.book.now (omega arith) c.fits-book c.requires.0 c.requires.1 c.drop_rows-done.ensures.1 in
-    (search rules, fit.0, fit.1)
+    (fit.0, fit.1)
 
 pub drop_rows-fops-requires : goal.drop_rows-fops-requires
 drop_rows-fops-requires c =
-    (search rules, begun_sound c.args.book.now (omega arith) c.fits-book c.requires.0 c.requires.1 c.drop_rows-done.ensures.1 c.begin_day-day.ensures.1)
+    begun_sound c.args.book.now (omega arith) c.fits-book c.requires.0 c.requires.1 c.drop_rows-done.ensures.1 c.begin_day-day.ensures.1
 
 pub close_exposures-closed-requires : goal.close_exposures-closed-requires
 close_exposures-closed-requires c =
-    (search rules, fops_sound c.args.book.now (omega arith) c.fits-book c.requires.0 c.requires.1 c.drop_rows-done.ensures.1 c.begin_day-day.ensures.1 c.drop_rows-fops.ensures.1)
+    fops_sound c.args.book.now (omega arith) c.fits-book c.requires.0 c.requires.1 c.drop_rows-done.ensures.1 c.begin_day-day.ensures.1 c.drop_rows-fops.ensures.1
 
 pub drop_rows-returns-requires : goal.drop_rows-returns-requires
 drop_rows-returns-requires c =
-    (search rules, closed_sound c.args.book.now (omega arith) c.fits-book c.requires.0 c.requires.1 c.drop_rows-done.ensures.1 c.begin_day-day.ensures.1 c.drop_rows-fops.ensures.1 c.close_exposures-closed.ensures.1)
+    closed_sound c.args.book.now (omega arith) c.fits-book c.requires.0 c.requires.1 c.drop_rows-done.ensures.1 c.begin_day-day.ensures.1 c.drop_rows-fops.ensures.1 c.close_exposures-closed.ensures.1
 
 pub overflow_add-result : goal.overflow_add-result
 overflow_add-result c =
