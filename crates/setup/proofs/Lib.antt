@@ -1,3 +1,2 @@
-pub mod Ranges
-pub mod Returns
-pub mod Zeros
+mod Ranges
+mod Zeros

@@ -7,6 +7,9 @@ use Prim.Native.Nat.{ℕ, ◌≤◌}
 use native.Mathlib.Omega.{arith}
 use lib.ListN.{get_or}
 use Rattle.record_kinds.specs.Kinds.{kinds}
+use Rattle.record_kinds.specs.Numbered.{kind_number}
+use Rattle.record_kinds.specs.declared.Kind.{Kind}
+use Rattle.record_kinds.specs.declared.Kind.TheVariants.{Opening, Price, Participant, Basket}
 use Rattle.records.specs.Writing.{are_legal}
 use Rattle.facts.proofs.Ranges.{field_in_lem}
 
@@ -34,13 +37,13 @@ pub record BasketIn (r : List ℕ) : Type 0 where
   pub age : get_or r 2 0 ≤ 255
 
 module _ (r : List ℕ) where
-  pub opening_in : are_legal 0 r ≡ true → OpeningIn r
+  opening_case : are_legal 0 r ≡ true → OpeningIn r
   unfolding kinds
-  opening_in h = record { day = (field_in_lem 0 0 r h (omega arith)).1; tolerance = (field_in_lem 0 1 r h (omega arith)).1 }
+  opening_case h = record { day = (field_in_lem 0 0 r h (omega arith)).1; tolerance = (field_in_lem 0 1 r h (omega arith)).1 }
 
-  pub price_in_lem : are_legal 1 r ≡ true → PriceIn r
+  price_case : are_legal 1 r ≡ true → PriceIn r
   unfolding kinds
-  price_in_lem h =
+  price_case h =
       record {
         security = (field_in_lem 1 0 r h (omega arith)).1;
         lot = (field_in_lem 1 1 r h (omega arith)).1;
@@ -49,9 +52,9 @@ module _ (r : List ℕ) where
         quote = (field_in_lem 1 4 r h (omega arith)).1;
       }
 
-  pub participant_in_lem : are_legal 2 r ≡ true → ParticipantIn r
+  participant_case : are_legal 2 r ≡ true → ParticipantIn r
   unfolding kinds
-  participant_in_lem h =
+  participant_case h =
       record {
         participant = (field_in_lem 2 0 r h (omega arith)).1;
         mode = (field_in_lem 2 1 r h (omega arith)).1;
@@ -59,6 +62,20 @@ module _ (r : List ℕ) where
         partial = (field_in_lem 2 3 r h (omega arith)).1;
       }
 
-  pub basket_in_lem : are_legal 3 r ≡ true → BasketIn r
+  basket_case : are_legal 3 r ≡ true → BasketIn r
   unfolding kinds
-  basket_in_lem h = record { basket = (field_in_lem 3 0 r h (omega arith)).1; securities = (field_in_lem 3 1 r h (omega arith)).1; age = (field_in_lem 3 2 r h (omega arith)).1 }
+  basket_case h = record { basket = (field_in_lem 3 0 r h (omega arith)).1; securities = (field_in_lem 3 1 r h (omega arith)).1; age = (field_in_lem 3 2 r h (omega arith)).1 }
+
+  -- by the kind's name
+  module _ {kind : Kind} where
+    pub opening_in : kind ≡ Opening → are_legal (kind_number kind) r ≡ true → OpeningIn r
+    opening_in k legal = opening_case (rw k at legal)
+
+    pub price_in_lem : kind ≡ Price → are_legal (kind_number kind) r ≡ true → PriceIn r
+    price_in_lem k legal = price_case (rw k at legal)
+
+    pub participant_in_lem : kind ≡ Participant → are_legal (kind_number kind) r ≡ true → ParticipantIn r
+    participant_in_lem k legal = participant_case (rw k at legal)
+
+    pub basket_in_lem : kind ≡ Basket → are_legal (kind_number kind) r ≡ true → BasketIn r
+    basket_in_lem k legal = basket_case (rw k at legal)
