@@ -3,13 +3,14 @@
 use Rattle.std.specs.Prelude.{◌≡◌, true, List, ℕ, length}
 use Rattle.book.specs.Layout.{book_length}
 use Rattle.book.specs.State.{state}
-use Rattle.records.specs.Writing.{are_legal}
+use Rattle.record_kinds.specs.declared.Kind.TheVariants.{Recall}
+use Rattle.records.specs.declared.record.Record.{Record}
 use Rattle.rules.specs.Sound.{sound}
 use Rattle.marking_laws.specs.Recalled.{Recallable}
 
 -- a recall that all rules but the last let pass, on a sound book
-pub record Recalling (book fields : List ℕ) : Type 0 where
+pub record Recalling (book : List ℕ) (entry : Record) : Type 0 where
   pub long : length book ≡ book_length
   pub sound_book : sound (state book) ≡ true
-  pub legal : are_legal 11 fields ≡ true
-  pub recallable : Recallable (state book) fields
+  pub kind_is : entry.kind ≡ Recall
+  pub recallable : Recallable (state book) entry.fields

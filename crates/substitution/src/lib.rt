@@ -14,45 +14,51 @@ ghost use Rattle.substitution.specs.Recalling.{Recalling};
 use book::Book;
 use book::layout::Table;
 use picking::Outcome;
-use record_kinds::Fields;
+use records::record::Record;
 
 // The giver's account with the nominal that is recalled.
-fn account_after(book: &Book, fields: &Fields) -> [u64; 64]
-    requires { Recalling book.now fields.now }
-    ensures { result ≡ account_after (state book.now) fields.now }
+fn account_after(book: &Book, record: &Record) -> [u64; 64]
+    requires { Recalling book.now record.now }
+    ensures { result ≡ account_after (state book.now) record.now.fields }
 {
-    let giver = book::get(book, Table::ExposureGivers, fields[1] as usize) as usize;
+    let giver = book::get(book, Table::ExposureGivers, record.fields[1] as usize) as usize;
     let mut account = book::row_at(book, Table::Accounts, 64 * giver);
-    let i = fields[2] as usize;
-    account[i] = account[i] + fields[3];
+    let i = record.fields[2] as usize;
+    account[i] += record.fields[3];
     account
 }
 
 // The exposure's position without it.
-fn position_left(book: &Book, fields: &Fields) -> [u64; 64]
-    requires { Recalling book.now fields.now }
-    ensures { result ≡ position_left (state book.now) fields.now }
+fn position_left(book: &Book, record: &Record) -> [u64; 64]
+    requires { Recalling book.now record.now }
+    ensures { result ≡ position_left (state book.now) record.now.fields }
 {
-    let mut position = book::row_at(book, Table::Positions, 64 * fields[1] as usize);
-    let i = fields[2] as usize;
-    position[i] = position[i] - fields[3];
+    let mut position = book::row_at(book, Table::Positions, 64 * record.fields[1] as usize);
+    let i = record.fields[2] as usize;
+    position[i] -= record.fields[3];
     position
 }
 
 // The substitutes: what is missing without the nominal, picked from the account with it, that security left out.
-pub fn substitutes(book: &Book, columns: &[u64; 256], fields: &Fields) -> Outcome
-    requires { Recalling book.now fields.now × (columns.now ≡ columns_of (state book.now)) }
-    ensures { result ≡ substitutes (state book.now) fields.now }
+pub fn substitutes(book: &Book, columns: &[u64; 256], record: &Record) -> Outcome
+    requires { Recalling book.now record.now × (columns.now ≡ columns_of (state book.now)) }
+    ensures { result ≡ substitutes (state book.now) record.now.fields }
 {
-    let e = fields[1] as usize;
-    let left = position_left(book, fields);
+    let e = record.fields[1] as usize;
+    let left = position_left(book, record);
     let value = securities::worth_of(&left, columns);
-    let missing = bonds::missing_from(book::get(book, Table::ExposureAmounts, e), value);
-    let account = account_after(book, fields);
+    let missing = book::get(book, Table::ExposureAmounts, e).saturating_sub(value);
+    let account = account_after(book, record);
     let basket = eligibility::basket_of(book, e);
     let today = book::get(book, Table::Today, 0);
     let x = baskets::eligibility_on(basket, today, columns);
-    picking::pick(&account, columns, x, fields[2], missing)
+    picking::pick(
+        &account,
+        columns,
+        x,
+        Some(record.fields[2] as usize),
+        missing,
+    )
 }
 
 // Two times 64 nominals, added.
@@ -68,25 +74,24 @@ fn add_nominals(nominals: &[u64; 64], by: &[u64; 64]) -> [u64; 64]
 }
 
 // The value of the exposure's position after the recall: of what is left with the substitutes.
-fn value_after(book: &Book, columns: &[u64; 256], fields: &Fields) -> u64
-    requires { Recalling book.now fields.now × (columns.now ≡ columns_of (state book.now)) }
-    ensures { (result ≡ value_of (substituted (state book.now) fields.now) (field fields.now 1)) × (result ≤ 9600000000000) }
+fn value_after(book: &Book, columns: &[u64; 256], record: &Record) -> u64
+    requires { Recalling book.now record.now × (columns.now ≡ columns_of (state book.now)) }
+    ensures { (result ≡ value_of (substituted (state book.now) record.now.fields) (field record.now.fields 1)) × (result ≤ 9600000000000) }
 {
-    let left = position_left(book, fields);
-    let found = substitutes(book, columns, fields);
-    let nominals = found.nominals;
-    let position = add_nominals(&left, &nominals);
+    let left = position_left(book, record);
+    let found = substitutes(book, columns, record);
+    let position = add_nominals(&left, &found.nominals);
     securities::worth_of(&position, columns)
 }
 
 // Is the value after the recall, with the tolerance, above the exposure, or no lower than before?
-pub fn is_accepted(book: &Book, fields: &Fields) -> bool
-    requires { Recalling book.now fields.now }
-    ensures { result ≡ recall_accepted (state book.now) fields.now }
+pub fn is_accepted(book: &Book, record: &Record) -> bool
+    requires { Recalling book.now record.now }
+    ensures { result ≡ recall_accepted (state book.now) record.now.fields }
 {
     let columns = book::columns(book);
-    let after = value_after(book, &columns, fields);
-    let e = fields[1] as usize;
+    let after = value_after(book, &columns, record);
+    let e = record.fields[1] as usize;
     if book::get(book, Table::ExposureAmounts, e) < after + book::get(book, Table::Tolerance, 0) {
         return true;
     }

@@ -1,7 +1,7 @@
 -- `settlement::settle_pairs` meets its contract: some pairs are tried, and what is left of the list leads to the same end.
 -- Assumes nothing.
 use mathlib.Core.List.{List}
-use Prim.Native.Nat.{ℕ, ◌-◌, ◌≤◌, ◌<◌}
+use Prim.Native.Nat.{ℕ, ◌-◌, ◌<◌}
 use Rattle.book.specs.State.{state}
 use Rattle.due_pairs.specs.Numbered.{pair_number}
 use Rattle.settlement.proofs.Passes.{Underway}

@@ -22,11 +22,5 @@ bounds-account-i c = omega (arith, security_in c.requires)
 pub overflow_add-account : goal.overflow_add-account
 overflow_add-account c = omega (arith, account_small c.requires c.get-giver.ensures c.row_at-account.ensures, (ranges_of c.requires).nominal_high)
 
-pub offset_bounds-account-i-2 : goal.offset_bounds-account-i-2
-offset_bounds-account-i-2 c = omega (arith, security_in c.requires)
-
 pub bounds-account-i-2 : goal.bounds-account-i-2
 bounds-account-i-2 c = omega (arith, security_in c.requires)
-
-pub returns : goal.returns
-returns c = rw (c.row_at-account.ensures, c.get-giver.ensures)

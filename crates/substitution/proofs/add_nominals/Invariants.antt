@@ -1,7 +1,7 @@
 -- `substitution::add_nominals` meets its contract: the sums below `i` are made.
 -- Assumes nothing.
 use mathlib.Core.Path.{◌≡◌}
-use Prim.Native.Nat.{◌+◌, ◌-◌, ◌≤◌}
+use Prim.Native.Nat.{◌+◌, ◌≤◌}
 use lib.ListN.{get_or}
 use Rattle.laws.specs.Filled.{filled}
 use Rattle.substitution.proofs.add_nominals.Given as goal

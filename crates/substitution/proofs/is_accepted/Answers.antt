@@ -2,8 +2,7 @@
 -- Assumes nothing.
 use native.Mathlib.Omega.{arith}
 use Rattle.book.specs.State.{state}
-use Rattle.substitution.proofs.Accepting.{exposure_in, book_of, tolerance_in, accepted_above, accepted_else}
-use Rattle.bonds.proofs.Rows.{bounded, row_within}
+use Rattle.substitution.proofs.Accepting.{exposure_in, bounded_in, row_within_in, tolerance_in, accepted_above, accepted_else}
 use Rattle.substitution.proofs.is_accepted.Goals as goal
 
 pub get-requires : goal.get-requires
@@ -14,7 +13,7 @@ overflow_add-after c = omega (arith, c.value_after-after.ensures.1, tolerance_in
 
 pub returns-then-get-after : goal.returns-then-get-after
 returns-then-get-after c =
-    accepted_above (state c.args.book.now) c.args.fields.now c.value_after-after.ensures.0 c.get.ensures c.get-2.ensures c.if-get-after.true
+    accepted_above (state c.args.book.now) c.args.record.now.fields c.value_after-after.ensures.0 c.get.ensures c.get-2.ensures c.if-get-after.true
 
 pub overflow_mul-e : goal.overflow_mul-e
 overflow_mul-e c = omega (arith, exposure_in c.requires)
@@ -25,10 +24,9 @@ row_at-position-requires c = omega (arith, exposure_in c.requires)
 pub worth_of-requires : goal.worth_of-requires
 worth_of-requires c =
     let k = c.requires in
-    let m = book_of k c.columns-columns.ensures in
-    (bounded m, row_within m (exposure_in k) c.row_at-position.ensures)
+    (bounded_in k c.columns-columns.ensures, row_within_in k c.row_at-position.ensures)
 
 pub returns : goal.returns
 returns c =
-    accepted_else (state c.args.book.now) c.args.fields.now c.value_after-after.ensures.0 c.get.ensures c.get-2.ensures c.if-get-after.false c.columns-columns.ensures c.row_at-position.ensures
+    accepted_else (state c.args.book.now) c.args.record.now.fields c.value_after-after.ensures.0 c.get.ensures c.get-2.ensures c.if-get-after.false c.columns-columns.ensures c.row_at-position.ensures
     c.worth_of.ensures
