@@ -10,6 +10,7 @@ ghost use Rattle.lines.specs.Pieces.{Serves, is_awaited, is_over};
 ghost use Rattle.line_text.specs.Text.{line_of};
 
 use arrayvec::ArrayVec;
+use record_kinds::Kind;
 
 // How far a piece of the input is served: the place of the next line, and the bytes of the piece whose calls are made.
 #[derive(Clone, Copy)]
@@ -23,11 +24,9 @@ fn length_of(kind: u8) -> Option<usize>
     ensures some { IfSome result (λ n. (n ≡ record_length kind) × (0 < n)) }
     ensures none { IfNone result (0 ≡ record_length kind) }
 {
-    let k = usize::from(kind);
-    if k < record_kinds::KINDS {
-        Some(record_kinds::length_of(k))
-    } else {
-        None
+    match Kind::try_from(u64::from(kind)) {
+        Ok(kind) => Some(record_kinds::length_of(kind)),
+        Err(_) => None,
     }
 }
 

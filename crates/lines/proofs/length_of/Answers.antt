@@ -1,11 +1,12 @@
 -- `lines::length_of` meets its contract.
 -- Assumes nothing.
 use Rattle.std.proofs.Common.{arith}
+use Rattle.record_kinds.proofs.Numbered.{kind_below}
 use Rattle.lines.proofs.Cuts.{known_length, unknown_length}
 use Rattle.lines.proofs.length_of.Goals as goal
 
-pub returns-then-k-lt-KINDS-clause-some : goal.returns-then-k-lt-KINDS-clause-some
-returns-then-k-lt-KINDS-clause-some c = known_length c.args.kind (omega arith) (cc)
+pub returns-in-Ok-clause-some : goal.returns-in-Ok-clause-some
+returns-in-Ok-clause-some c = ?
 
-pub returns-else-k-lt-KINDS-clause-none : goal.returns-else-k-lt-KINDS-clause-none
-returns-else-k-lt-KINDS-clause-none c = unknown_length c.args.kind (omega arith)
+pub returns-in-Err-clause-none : goal.returns-in-Err-clause-none
+returns-in-Err-clause-none c = ?
