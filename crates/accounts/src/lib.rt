@@ -2,33 +2,34 @@
 // step of an accepted record.
 #![tactic(auto)]
 
-ghost use Rattle.std.specs.Prelude.{◌≡◌, true, ◌<◌, ◌≤◌, length};
-ghost use Rattle.book.specs.Layout.{book_length};
+ghost use Rattle.std.specs.Prelude.{◌≡◌, ◌<◌, ◌≤◌};
+ghost use Rattle.answers.specs.Refusals.{outcome_code};
 ghost use Rattle.book.specs.State.{state};
-ghost use Rattle.records.specs.Writing.{are_legal};
+ghost use Rattle.record_kinds.specs.declared.Kind.TheVariants.{Deposit, Withdrawal};
 ghost use Rattle.rules.specs.Codes.{deposit_rules, withdrawal_rules};
 ghost use Rattle.rules.specs.Outcome.{lowest};
 ghost use Rattle.rules.specs.SetUp.{deposited, withdrawn};
 ghost use Rattle.rules.specs.Stock.{holding, position_from};
 ghost use Rattle.accounts.specs.Accounts.{account_code, AccountRoom, AccountHolds};
 
+use answers::Refusal;
 use book::Book;
 use book::layout::Table;
 use limits::GREATEST_NOMINAL;
-use record_kinds::Fields;
+use records::record::Record;
 
 // The nominal of security i in exposure e, where it is used and the participant's.
 fn position_from(book: &Book, p: usize, i: usize, e: usize) -> u64
     requires { (i < 64) × (e < 64) }
-    ensures { (result ≡ position_from (state book.now) p i e) × (result ≤ 4294967295) }
+    ensures { result ≡ position_from (state book.now) p i e }
 {
-    if book::get(book, Table::InUse, e) != 1 {
-        return 0;
+    if book::get(book, Table::InUse, e) == 1
+        && book::get(book, Table::ExposureGivers, e) == p as u64
+    {
+        book::get(book, Table::Positions, 64 * e + i)
+    } else {
+        0
     }
-    if book::get(book, Table::ExposureGivers, e) != p as u64 {
-        return 0;
-    }
-    book::get(book, Table::Positions, 64 * e + i)
 }
 
 // What a participant holds of a security: its account and the positions of its exposures.
@@ -36,75 +37,69 @@ pub fn holding_of(book: &Book, p: usize, i: usize) -> u64
     requires { (p < 32) × (i < 64) }
     ensures { (result ≡ holding (state book.now) p i) × (result ≤ 300000000000) }
 {
-    let mut sum: u64 = 0;
-    for e in 0..64 {
-        sum += position_from(book, p, i, e);
-    }
-    book::get(book, Table::Accounts, 64 * p + i) + sum
+    let placed: u64 = (0..64).map(|e| position_from(book, p, i, e)).sum();
+    book::get(book, Table::Accounts, 64 * p + i) + placed
 }
 
-// 5 where the participant or the security of a deposit or withdrawal is not set up, else 0.
-fn account_code(book: &Book, p: usize, i: usize) -> u64
+// Are the participant and the security of a deposit or withdrawal set up?
+fn check_account(book: &Book, p: usize, i: usize) -> Result<(), Refusal>
     requires { (p < 32) × (i < 64) }
-    ensures { result ≡ account_code (state book.now) p i }
+    ensures { outcome_code result ≡ account_code (state book.now) p i }
 {
-    if book::get(book, Table::Modes, p) == 0 {
-        return 5;
+    if book::get(book, Table::Modes, p) == 0 || book::get(book, Table::Lots, i) == 0 {
+        return Err(Refusal::NotSetUp);
     }
-    if book::get(book, Table::Lots, i) == 0 {
-        return 5;
-    }
-    0
+    Ok(())
 }
 
 // 4: the code of a deposit.
-pub fn deposit_code(book: &Book, fields: &Fields) -> u64
-    requires { are_legal 4 fields.now ≡ true }
-    ensures { result ≡ lowest (deposit_rules (state book.now) fields.now) }
+#[tactic(auto, unfolding(rules::specs::Codes::deposit_rules))]
+pub fn check_deposit(book: &Book, legal: &Record) -> Result<(), Refusal>
+    requires { legal.now.kind ≡ Deposit }
+    ensures { outcome_code result ≡ lowest (deposit_rules (state book.now) legal.now.fields) }
 {
-    let p = fields[0] as usize;
-    let i = fields[1] as usize;
-    if account_code(book, p, i) != 0 {
-        return 5;
+    let p = legal.fields[0] as usize;
+    let i = legal.fields[1] as usize;
+    check_account(book, p, i)?;
+    if GREATEST_NOMINAL < holding_of(book, p, i) + legal.fields[2] {
+        return Err(Refusal::TooLarge);
     }
-    if GREATEST_NOMINAL < holding_of(book, p, i) + fields[2] {
-        return 11;
-    }
-    0
+    Ok(())
 }
 
 // 5: the code of a withdrawal.
-pub fn withdrawal_code(book: &Book, fields: &Fields) -> u64
-    requires { are_legal 5 fields.now ≡ true }
-    ensures { result ≡ lowest (withdrawal_rules (state book.now) fields.now) }
+#[tactic(auto, unfolding(rules::specs::Codes::withdrawal_rules))]
+pub fn check_withdrawal(book: &Book, legal: &Record) -> Result<(), Refusal>
+    requires { legal.now.kind ≡ Withdrawal }
+    ensures { outcome_code result ≡ lowest (withdrawal_rules (state book.now) legal.now.fields) }
 {
-    let p = fields[0] as usize;
-    let i = fields[1] as usize;
-    if account_code(book, p, i) != 0 {
-        return 5;
+    let p = legal.fields[0] as usize;
+    let i = legal.fields[1] as usize;
+    check_account(book, p, i)?;
+    if book::get(book, Table::Accounts, 64 * p + i) < legal.fields[2] {
+        return Err(Refusal::TooMuch);
     }
-    if book::get(book, Table::Accounts, 64 * p + i) < fields[2] {
-        return 10;
-    }
-    0
+    Ok(())
 }
 
 // 4: adds to an account.
-pub fn deposit(book: &mut Book, fields: &Fields)
-    requires { (are_legal 4 fields.now ≡ true) × AccountRoom (state book.old) fields.now }
-    ensures { state book.new ≡ (deposited (state book.old) fields.now).state }
+#[tactic(auto, unfolding(rules::specs::SetUp::deposited))]
+pub fn deposit(book: &mut Book, legal: &Record)
+    requires { (legal.now.kind ≡ Deposit) × AccountRoom (state book.old) legal.now.fields }
+    ensures { state book.new ≡ (deposited (state book.old) legal.now.fields).state }
 {
-    let k = 64 * fields[0] as usize + fields[1] as usize;
+    let k = 64 * legal.fields[0] as usize + legal.fields[1] as usize;
     let x = book::get(book, Table::Accounts, k);
-    book::set(book, Table::Accounts, k, x + fields[2]);
+    book::set(book, Table::Accounts, k, x + legal.fields[2]);
 }
 
 // 5: takes from an account.
-pub fn withdraw(book: &mut Book, fields: &Fields)
-    requires { (are_legal 5 fields.now ≡ true) × AccountHolds (state book.old) fields.now }
-    ensures { state book.new ≡ (withdrawn (state book.old) fields.now).state }
+#[tactic(auto, unfolding(rules::specs::SetUp::withdrawn))]
+pub fn withdraw(book: &mut Book, legal: &Record)
+    requires { (legal.now.kind ≡ Withdrawal) × AccountHolds (state book.old) legal.now.fields }
+    ensures { state book.new ≡ (withdrawn (state book.old) legal.now.fields).state }
 {
-    let k = 64 * fields[0] as usize + fields[1] as usize;
+    let k = 64 * legal.fields[0] as usize + legal.fields[1] as usize;
     let x = book::get(book, Table::Accounts, k);
-    book::set(book, Table::Accounts, k, x - fields[2]);
+    book::set(book, Table::Accounts, k, x - legal.fields[2]);
 }
