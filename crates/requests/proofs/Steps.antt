@@ -3,20 +3,20 @@
 use mathlib.Core.Path.{◌≡◌, refl, sym, ◌∙◌}
 use mathlib.Core.Bool.{Bool, true, false, and-false, or-true}
 use mathlib.Core.List.{List}
-use Prim.Native.Nat.{ℕ, ◌+◌, ◌≤◌, ◌<◌}
+use Prim.Native.Nat.{ℕ, ◌+◌, ◌<◌}
 use lib.Dec.{ltb}
 use lib.ListN.{get_or}
 use borrow.Author.Tests.{eq-eqb, ne_eqb, lt-ltb, le-ltb}
 use Rattle.std.specs.Prelude.{Option, Some, None}
 use Rattle.laws.specs.Search.{found}
 use Rattle.laws.proofs.Found.{found_some, found_nothing}
-use Rattle.book.specs.Layout.{next_number, numbers, sides, givers, takers, partners, cancels, ends}
+use Rattle.book.specs.Layout.{next_number, numbers, partners, ends}
 use Rattle.book.specs.State.{State, put}
-use Rattle.rules.specs.Requests.{accepts_giver, partner_of, free_exposure}
-use Rattle.rules.specs.Requesting.{taker_follows, earliest_equal, pairs_now, needs_exposure, with_row, with_taker, with_equal, waiting, rows_entered, entered, pair_ends, own_request, cancelled}
+use Rattle.rules.specs.Requests.{free_exposure}
+use Rattle.rules.specs.Requesting.{taker_follows, earliest_equal, pairs_now, needs_exposure, with_row, with_taker, with_equal, waiting, rows_entered, entered, own_request, cancelled}
 use Rattle.totals.specs.Totals.{totals_of}
 use Rattle.request_entry.specs.Entering.{RoomForTwo, lacks_exposure, ExposureRoom, with_exposure}
-use Rattle.requests.specs.Steps.{Room, PairIn, Entered, cancelled_pair}
+use Rattle.requests.specs.Steps.{Room, Entered, cancelled_pair}
 
 -- a request that pairs: its rows leave the exposures as they are
 module _ (s t : State) (k : ℕ) (r : List ℕ) (key : lacks_exposure t k r ≡ lacks_exposure s k r) (free : free_exposure t ≡ free_exposure s)

@@ -1,6 +1,5 @@
 -- `requests::enter_rows` meets its contract.
 -- Assumes nothing.
-use borrow.Author.Rules.{rules}
 use Rattle.requests.proofs.Steps.{taker_room, equal_room, entered_with_taker, entered_waiting, entered_with_equal}
 use Rattle.requests.proofs.enter_rows.Goals as goal
 
