@@ -5,14 +5,19 @@ use mathlib.Core.Bool.{Bool, true, false, not, cond, and-false}
 use mathlib.Core.List.{List}
 use mathlib.Core.Logic.{⊎_elim}
 use Prim.Native.Nat.{ℕ, ◌+◌, ◌*◌, ◌%◌, ◌≤◌, ◌<◌}
+use native.Mathlib.Omega.{arith}
 use lib.ListN.{length, get_or, take, drop}
 use borrow.Author.Tests.{eq-eqb, ne_eqb, lt-ltb, le-ltb}
+use Rattle.answers.specs.Refusals.{number}
+use Rattle.answers.specs.declared.Refusal.{Refusal}
+use Rattle.answers.specs.declared.Refusal.TheVariants.{BookLength, UnsoundBook, Malformed, OutOfRange, NotSetUp, SetUpAgain, BadDay, SameParty, Automatic, TooMuch, TooLarge, NoneSuch, Settled, NoRow, NoExposure, NotCovered}
 use Rattle.laws.proofs.Cases.{either}
 use Rattle.picking.specs.declared.Outcome.{Outcome}
 use Rattle.book.specs.Layout.{book_length, lots, modes, in_use, exposure_givers, positions}
 use Rattle.book.specs.State.{State, state}
 use Rattle.rules.specs.Codes.{recall_rules}
-use Rattle.records.specs.Writing.{are_legal}
+use Rattle.record_kinds.specs.declared.Kind.TheVariants.{Recall}
+use Rattle.records.specs.declared.record.Record.{Record}
 use Rattle.rules.specs.Marking.{one_nominal, recalled, substitutes, substituted, recall_accepted, recall}
 use Rattle.rules.specs.Outcome.{Rule, lowest}
 use Rattle.rules.specs.Fields.{field}
@@ -26,9 +31,14 @@ use Rattle.bond_laws.proofs.Lots.{pick_pledgeable}
 use Rattle.facts.proofs.Rules.{stops, goes_on}
 use Rattle.marking_laws.specs.Recalled.{Recallable}
 use Rattle.marking_laws.proofs.Marking.{named_recallable, accepted_recallable, one_returnable, kept_recalled}
+use Rattle.marking_laws.proofs.Ranges.{RecallIn, recall_in}
 use Rattle.substitution.specs.Recalling.{Recalling}
 use Rattle.substitution.proofs.Accepting.{facts_of, ranges_of, exposure_in, good_in}
 use Rattle.recalls.specs.Codes.{names_code, holds_code}
+
+-- the ranges of a recall's fields
+pub ranges : (entry : Record) → entry.kind ≡ Recall → RecallIn entry.fields
+ranges entry k = recall_in entry.fields (rw k at entry.legal)
 
 -- the names and the lots
 module _ (s : State) (r : List ℕ) {lot : ℕ} (q : lot ≡ s lots (field r 2)) where
@@ -73,18 +83,37 @@ module _ (s : State) (r : List ℕ) {used : ℕ} (q : used ≡ s in_use (field r
           rw (eq-eqb (s in_use (field r 1)) 1 (sym q ∙ o), eq-eqb (s exposure_givers (field r 1)) (field r 0) (sym g ∙ h), le-ltb (s positions (64 * field r 1 + field r 2)) (field r 3) (rw p at l))
 
 -- the nominal may go back, and then the substitutes may come in
-module _ {book fields : List ℕ} (k : Recalling book fields) (small : (i : ℕ) → get_or book i 0 < 256) where
-  pub one_gives : GivingBack (state book) (field fields 1) (one_nominal (field fields 2) (field fields 3))
+module _ {book : List ℕ} {entry : Record} (k : Recalling book entry) (small : (i : ℕ) → get_or book i 0 < 256) where
+  pub one_gives : GivingBack (state book) (field entry.fields 1) (one_nominal (field entry.fields 2) (field entry.fields 3))
   one_gives =
-      gives_back (state book) (field fields 1) (one_nominal (field fields 2) (field fields 3)) (facts_of k) (exposure_in k) k.recallable.used
-      (one_returnable (state book) fields (good_in k small) (ranges_of k) k.recallable)
+      gives_back (state book) (field entry.fields 1) (one_nominal (field entry.fields 2) (field entry.fields 3)) (facts_of k) (exposure_in k) k.recallable.used
+      (one_returnable (state book) entry.fields (good_in k small) (ranges_of k) k.recallable)
 
-  pub found_pledges : {t : State} {o : Outcome} → t ≡ recalled (state book) fields → o ≡ substitutes (state book) fields → Pledging t (field fields 1) o.nominals
+  pub found_pledges : {t : State} {o : Outcome} → t ≡ recalled (state book) entry.fields → o ≡ substitutes (state book) entry.fields → Pledging t (field entry.fields 1) o.nominals
   unfolding substitutes
   found_pledges q n =
       rw (q, n)
-      (pledges (recalled (state book) fields) (field fields 1) (substitutes (state book) fields).nominals (kept_recalled (state book) fields (good_in k small) (ranges_of k) k.recallable).good.facts
-      (exposure_in k) k.recallable.used (pick_pledgeable (recalled (state book) fields) (field fields 1) _ _))
+      (pledges (recalled (state book) entry.fields) (field entry.fields 1) (substitutes (state book) entry.fields).nominals (kept_recalled (state book) entry.fields (good_in k small) (ranges_of k) k.recallable).good.facts
+      (exposure_in k) k.recallable.used (pick_pledgeable (recalled (state book) entry.fields) (field entry.fields 1) _ _))
+
+-- no refusal has the code of an accepted record
+pub refused : (r : Refusal) → number r ≡ 0 → ⊥
+refused BookLength e = omega arith
+refused UnsoundBook e = omega arith
+refused Malformed e = omega arith
+refused OutOfRange e = omega arith
+refused NotSetUp e = omega arith
+refused SetUpAgain e = omega arith
+refused BadDay e = omega arith
+refused SameParty e = omega arith
+refused Automatic e = omega arith
+refused TooMuch e = omega arith
+refused TooLarge e = omega arith
+refused NoneSuch e = omega arith
+refused Settled e = omega arith
+refused NoRow e = omega arith
+refused NoExposure e = omega arith
+refused NotCovered e = omega arith
 
 -- the code of all rules, one part after the other; the last is 16
 abbrev last_code : Bool → ℕ
@@ -94,10 +123,6 @@ module _ (s : State) (r : List ℕ) {names : ℕ} (q : names ≡ names_code s r)
   -- the rules after those of the names and the lots
   abbrev others : List Rule
   others = drop 3 (recall_rules s r)
-
-  pub code_names : (names ≡ 0 → ⊥) → names ≡ lowest (recall_rules s r)
-  unfolding recall_rules
-  code_names n = stops (take 3 (recall_rules s r)) others q n
 
   module _ (z : names ≡ 0) where
     after_names : {x : ℕ} → x ≡ lowest others → x ≡ lowest (recall_rules s r)
@@ -124,8 +149,8 @@ module _ (s : State) (r : List ℕ) {names : ℕ} (q : names ≡ names_code s r)
         code_refused a f = last_code_lem (sym f ∙ a)
 
 -- a record that every rule lets pass
-pub accepted_recalling : (book fields : List ℕ) → length book ≡ book_length → are_legal 11 fields ≡ true → sound (state book) ≡ true → lowest (recall_rules (state book) fields) ≡ 0 → Recalling book fields
-accepted_recalling book fields l a s z = record { long = l; sound_book = s; legal = a; recallable = accepted_recallable (state book) fields z }
+pub accepted_recalling : (book : List ℕ) (entry : Record) → length book ≡ book_length → entry.kind ≡ Recall → sound (state book) ≡ true → lowest (recall_rules (state book) entry.fields) ≡ 0 → Recalling book entry
+accepted_recalling book entry l k s z = record { long = l; sound_book = s; kind_is = k; recallable = accepted_recallable (state book) entry.fields z }
 
 -- the step and its answer
 pub recall_whole : (s : State) (r : List ℕ) {t u : State} {o : Outcome} → t ≡ recalled s r → o ≡ substitutes s r → u ≡ pledge t (field r 1) o.nominals

@@ -1,46 +1,47 @@
-// The codes of a recall but 16: 4, 5, 12 and 10.
-ghost use Rattle.std.specs.Prelude.{◌≡◌, true, length};
-ghost use Rattle.book.specs.Layout.{book_length};
+// The rules of a recall but the last: of what it names, and of the exposure and what it holds.
+ghost use Rattle.std.specs.Prelude.{◌≡◌};
+ghost use Rattle.answers.specs.Refusals.{outcome_code};
 ghost use Rattle.book.specs.State.{state};
-ghost use Rattle.records.specs.Writing.{are_legal};
+ghost use Rattle.record_kinds.specs.declared.Kind.TheVariants.{Recall};
 ghost use Rattle.recalls.specs.Codes.{names_code, holds_code};
 
+use answers::Refusal;
 use book::Book;
 use book::layout::Table;
-use record_kinds::Fields;
+use records::record::Record;
 
-// 4 for a nominal that is not in whole lots, 5 for a giver or a security not set up, else 0. A security not set up has no lots: 5.
-pub fn names_code(book: &Book, fields: &Fields) -> u64
-    requires { are_legal 11 fields.now ≡ true }
-    ensures { result ≡ names_code (state book.now) fields.now }
+// Is the nominal in whole lots, and are the giver and the security set up? A security not set up has no lots.
+pub fn check_names(book: &Book, record: &Record) -> Result<(), Refusal>
+    requires { record.now.kind ≡ Recall }
+    ensures { outcome_code result ≡ names_code (state book.now) record.now.fields }
 {
-    let lot = book::get(book, Table::Lots, fields[2] as usize);
+    let lot = book::get(book, Table::Lots, record.fields[2] as usize);
     if lot == 0 {
-        return 5;
+        return Err(Refusal::NotSetUp);
     }
-    if fields[3] % lot != 0 {
-        return 4;
+    if record.fields[3] % lot != 0 {
+        return Err(Refusal::OutOfRange);
     }
-    if book::get(book, Table::Modes, fields[0] as usize) == 0 {
-        return 5;
+    if book::get(book, Table::Modes, record.fields[0] as usize) == 0 {
+        return Err(Refusal::NotSetUp);
     }
-    0
+    Ok(())
 }
 
-// 12 where the exposure is not used or not the giver's, 10 where it holds less than the nominal, else 0.
-pub fn holds_code(book: &Book, fields: &Fields) -> u64
-    requires { are_legal 11 fields.now ≡ true }
-    ensures { result ≡ holds_code (state book.now) fields.now }
+// Is the exposure used and the giver's, and does it hold the nominal?
+pub fn check_holds(book: &Book, record: &Record) -> Result<(), Refusal>
+    requires { record.now.kind ≡ Recall }
+    ensures { outcome_code result ≡ holds_code (state book.now) record.now.fields }
 {
-    let e = fields[1] as usize;
+    let e = record.fields[1] as usize;
     if book::get(book, Table::InUse, e) != 1 {
-        return 12;
+        return Err(Refusal::NoneSuch);
     }
-    if book::get(book, Table::ExposureGivers, e) != fields[0] {
-        return 12;
+    if book::get(book, Table::ExposureGivers, e) != record.fields[0] {
+        return Err(Refusal::NoneSuch);
     }
-    if book::get(book, Table::Positions, 64 * e + fields[2] as usize) < fields[3] {
-        return 10;
+    if book::get(book, Table::Positions, 64 * e + record.fields[2] as usize) < record.fields[3] {
+        return Err(Refusal::TooMuch);
     }
-    0
+    Ok(())
 }
