@@ -34,7 +34,8 @@ fn order_of(book: &Book, i: usize) -> u64
     book::get(book, Table::Settlements, i) * 4294967296 + book::get(book, Table::Numbers, i)
 }
 
-// Is the row the later request of a live pair that is due? Guard by guard: at the joins of one long `&&` the facts of each test are lost.
+// Is the row the later request of a live pair that is due? Guard by guard: tried as one long `&&`, its last goals lose the tests' facts
+// at the joins and did not close.
 fn is_due_pair(book: &Book, i: usize) -> bool
     requires { Good (state book.now) × (i < 256) }
     ensures { result ≡ is_due (state book.now) i }
