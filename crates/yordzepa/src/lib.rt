@@ -71,9 +71,7 @@ pub extern "C" fn picking_pick(
 ) -> PickAnswer
     ensures { result ≡ picked_for columns.now account.now (record { map = map; oldest = oldest }) today amount }
 {
-    PickAnswer::from(picking_calls::picking_pick(
-        account, columns, map, oldest, today, amount,
-    ))
+    PickAnswer::from(picking_calls::picking_pick(account, columns, map, oldest, today, amount))
 }
 
 // Frees a position down to an exposure.
