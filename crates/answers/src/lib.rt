@@ -5,12 +5,6 @@ ghost use Rattle.std.specs.Prelude.{◌≡◌};
 ghost use Rattle.answers.specs.Answers.{accepted, refused, coded};
 ghost use Rattle.answers.specs.Refusals.{number};
 
-pub const MALFORMED: u64 = 3;
-
-pub const OUT_OF_RANGE: u64 = 4;
-
-pub const BAD_DAY: u64 = 7;
-
 // The reasons, lowest code first: the number of each is the code that a host gets. An accepted call has code 0.
 #[derive(Clone, Copy, Debug, PartialEq, Eq)]
 pub enum Refusal {

@@ -1,18 +1,17 @@
 -- Laws of the codes 1 and 2: what a book without them is, and that they come before any other code.
 -- Assumes nothing.
-use mathlib.Core.Path.{◌≡◌, refl, sym, ap, ◌∙◌}
-use mathlib.Core.Bool.{Bool, true, false, not, ◌&&◌, cond, and-false}
+use mathlib.Core.Path.{◌≡◌, refl, sym, ◌∙◌}
+use mathlib.Core.Bool.{Bool, true, false, not, ◌&&◌, cond}
 use mathlib.Core.List.{List}
 use Prim.Native.Nat.{ℕ}
 use native.Mathlib.Omega.{arith}
 use lib.Dec.{eqb}
-use lib.ListN.{length, get_or}
-use borrow.Author.Tests.{ne_eqb, eqb-true}
+use lib.ListN.{length}
+use borrow.Author.Tests.{eqb-true}
 use Rattle.book.specs.Layout.{book_length}
 use Rattle.book.specs.State.{state}
-use Rattle.rules.specs.Call.{opens}
 use Rattle.rules.specs.Sound.{sound}
-use Rattle.damage.specs.Damage.{code_after, book_damage, damage}
+use Rattle.damage.specs.Damage.{code_after, book_damage}
 
 -- past the tests: the right length, and sound or an opening
 pub record Passed (b : List ℕ) (o : Bool) : Type 0 where

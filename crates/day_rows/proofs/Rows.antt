@@ -1,14 +1,14 @@
 -- Request rows in a day change: dropping a row leaves the tests of the others, and what a return names.
 -- Assumes nothing.
-use mathlib.Core.Path.{◌≡◌, refl}
+use mathlib.Core.Path.{◌≡◌}
 use mathlib.Core.Bool.{Bool}
 use mathlib.Core.Logic.{⊎_elim}
-use Prim.Native.Nat.{ℕ, ◌+◌, ◌<◌}
+use Prim.Native.Nat.{ℕ, ◌<◌}
 use native.Mathlib.Omega.{arith}
 use borrow.Author.Tests.{ne_eqb}
 use Rattle.laws.proofs.Cases.{either}
-use Rattle.book.specs.Layout.{numbers, request_kinds, baskets_or_exposures}
-use Rattle.book.specs.State.{State, put}
+use Rattle.book.specs.Layout.{request_kinds, baskets_or_exposures}
+use Rattle.book.specs.State.{State}
 use Rattle.rules.specs.DayChange.{row_dropped, on_each}
 use Rattle.rules.specs.Requests.{is_used}
 use Rattle.facts.specs.Good.{Sound}

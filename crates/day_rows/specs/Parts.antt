@@ -1,8 +1,8 @@
 -- What dropping a row counts on, and what the parts of a day change do to one row.
 -- Assumes nothing.
-use Rattle.std.specs.Prelude.{◌≡◌, Bool, cond, ℕ, zero, suc, ◌+◌, ◌<◌}
+use Rattle.std.specs.Prelude.{◌≡◌, Bool, cond, ℕ, ◌<◌}
 use Rattle.book.specs.Layout.{request_kinds, baskets_or_exposures}
-use Rattle.book.specs.State.{State, put}
+use Rattle.book.specs.State.{State}
 use Rattle.rules.specs.DayChange.{is_done, is_closed_fop, is_closed_return}
 use Rattle.day_rows.specs.declared.Pass.{Pass}
 use Rattle.day_rows.specs.declared.Pass.TheVariants.{Done, ClosedFops, ClosedReturns}

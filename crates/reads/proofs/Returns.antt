@@ -1,24 +1,15 @@
 -- What each return of the reads shows.
 -- Assumes nothing.
-use mathlib.Core.Path.{◌≡◌, refl, sym, ◌∙◌}
-use mathlib.Core.Bool.{Bool, true, false, not, ◌&&◌, or-true, and-false}
-use mathlib.Core.List.{[], ◌∷◌}
+use mathlib.Core.Path.{◌≡◌, sym, ◌∙◌}
+use mathlib.Core.Bool.{true, false}
 use mathlib.Core.Logic.{⊎_elim}
-use Prim.Native.Nat.{ℕ, zero, suc, ◌+◌, ◌*◌, ◌-◌, ◌≤◌, ◌<◌}
-use native.Mathlib.Decide.{dec_lt}
+use Prim.Native.Nat.{ℕ, ◌-◌, ◌<◌}
 use native.Mathlib.Omega.{arith}
-use lib.Dec.{eqb, leb}
-use lib.ListN.{get_or}
-use borrow.Author.Tests.{eq-eqb, ne_eqb, le-leb, lt-leb}
-use Rattle.laws.specs.Filled.{filled}
-use Rattle.laws.specs.Search.{least}
+use borrow.Author.Tests.{ne_eqb}
 use Rattle.laws.proofs.Cases.{either}
-use Rattle.laws.proofs.Filled.{rules_along}
-use Rattle.laws.proofs.Least.{least_here, least_on, least_end, least_miss}
-use Rattle.book.specs.Layout.{rows_of, lots, numbers, partners, request_tables}
+use Rattle.book.specs.Layout.{numbers, partners}
 use Rattle.book.specs.State.{State}
-use Rattle.rules.specs.Outcome.{rule, lowest}
-use Rattle.rules.specs.Reads.{row_of, partner_number}
+use Rattle.rules.specs.Reads.{partner_number}
 use Rattle.rules.specs.Requests.{is_used, is_paired}
 use Rattle.rules.specs.Sound.{sound}
 use Rattle.facts.proofs.Written.{sound_facts}

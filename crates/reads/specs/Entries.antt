@@ -7,7 +7,6 @@ use Rattle.book.specs.Layout.{numbers, request_tables}
 use Rattle.book.specs.State.{State}
 use Rattle.rules.specs.Outcome.{Rule, rule}
 use Rattle.rules.specs.Reads.{shown}
-use Rattle.rules.specs.Requests.{is_used}
 
 -- 4 of a number past a table's rows; 5 of a row that is not set up, or not in use
 abbrev pub index_rules : ℕ → ℕ → List Rule

@@ -8,7 +8,6 @@ use Rattle.rules.specs.DayChange.{on_next_day}
 use Rattle.facts.proofs.Written.{sound_facts}
 use Rattle.facts.proofs.Stock.{today_le}
 use Rattle.day_laws.proofs.Profiles.{next_day_within}
-use borrow.Author.Rules.{rules}
 use Rattle.day_change.proofs.begin_day.Goals as goal
 
 pub next_open_day-next-requires : goal.next_open_day-next-requires

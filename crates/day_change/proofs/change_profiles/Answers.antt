@@ -8,7 +8,6 @@ use Rattle.day_laws.proofs.Each.{no_turn}
 use Rattle.day_change.specs.Parts.{profile_waits}
 use Rattle.day_rows.proofs.OnEach.{loop_steps}
 use Rattle.day_change.proofs.Profiles.{profiles_apart}
-use borrow.Author.Rules.{rules}
 use Rattle.day_change.proofs.change_profiles.Goals as goal
 
 pub loop-p-init : goal.loop-p-init

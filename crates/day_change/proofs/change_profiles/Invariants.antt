@@ -1,7 +1,7 @@
 -- `day_change::change_profiles` meets its contract: the profiles below `p` are changed.
 -- Assumes nothing.
 use mathlib.Core.Path.{◌≡◌}
-use Prim.Native.Nat.{◌-◌, ◌≤◌}
+use Prim.Native.Nat.{◌≤◌}
 use Rattle.book.specs.State.{state}
 use Rattle.rules.specs.DayChange.{on_each, change_takes_effect}
 use Rattle.day_change.specs.Parts.{profile_waits}

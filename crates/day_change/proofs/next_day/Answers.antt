@@ -3,7 +3,6 @@
 use native.Mathlib.Omega.{arith}
 use Rattle.book.specs.State.{state}
 use Rattle.day_change.proofs.Stages.{may_begin, begun_sound, fops_sound, closed_sound, dropped_le, passes}
-use borrow.Author.Rules.{rules}
 use Rattle.day_change.proofs.next_day.Goals as goal
 
 pub begin_day-day-requires : goal.begin_day-day-requires

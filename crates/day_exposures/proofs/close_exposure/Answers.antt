@@ -1,6 +1,5 @@
 -- `day_exposures::close_exposure` meets its contract.
 -- Assumes nothing.
-use native.Mathlib.Omega.{arith}
 use mathlib.Core.Path.{sym, ◌∙◌}
 use Rattle.book.specs.State.{state}
 use Rattle.rules.specs.DayChange.{is_exposure_closed, exposure_closed}

@@ -1,7 +1,7 @@
 -- `day_exposures::close_exposures` meets its contract: the exposures below `e` are closed, and their amounts summed.
 -- Assumes nothing.
 use mathlib.Core.Path.{◌≡◌}
-use Prim.Native.Nat.{◌-◌, ◌≤◌}
+use Prim.Native.Nat.{◌≤◌}
 use lib.ListN.{length}
 use Rattle.laws.specs.Sum.{sum}
 use Rattle.book.specs.Layout.{book_length}

@@ -1,7 +1,7 @@
 -- `day_exposures::free_exposures` meets its contract: the idle exposures below `e` are freed.
 -- Assumes nothing.
 use mathlib.Core.Path.{◌≡◌}
-use Prim.Native.Nat.{◌-◌, ◌≤◌}
+use Prim.Native.Nat.{◌≤◌}
 use lib.ListN.{length}
 use Rattle.book.specs.Layout.{book_length}
 use Rattle.book.specs.State.{state}

@@ -1,7 +1,7 @@
 -- `day_exposures::give_position` meets its contract: the securities below `i` are given back.
 -- Assumes nothing.
 use mathlib.Core.Path.{◌≡◌}
-use Prim.Native.Nat.{◌-◌, ◌≤◌}
+use Prim.Native.Nat.{◌≤◌}
 use lib.ListN.{length}
 use Rattle.book.specs.Layout.{book_length}
 use Rattle.book.specs.State.{state}

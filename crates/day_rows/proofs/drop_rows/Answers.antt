@@ -12,7 +12,6 @@ use Rattle.day_laws.proofs.Each.{no_turn}
 use Rattle.day_rows.specs.Parts.{drops}
 use Rattle.day_rows.proofs.OnEach.{loop_steps, loop_counts, counted}
 use Rattle.day_rows.proofs.Rows.{rows_apart, later_named, sound_named}
-use borrow.Author.Rules.{rules}
 use Rattle.day_rows.proofs.drop_rows.Goals as goal
 
 pub loop-i-init : goal.loop-i-init

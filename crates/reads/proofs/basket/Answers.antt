@@ -1,15 +1,13 @@
 -- `reads::basket` meets its contract: its tests, one after the other, give its code.
 -- Assumes nothing.
-use mathlib.Core.Path.{refl, sym, ◌∙◌}
+use mathlib.Core.Path.{refl}
 use lib.Dec.{eqb, leb}
-use native.Mathlib.Omega.{arith}
 use Rattle.std.proofs.lemmas.Result.{err_from_is_err_and}
-use Rattle.book.specs.Layout.{modes, lots, in_use, maps}
+use Rattle.book.specs.Layout.{maps}
 use Rattle.book.specs.State.{state}
-use Rattle.rules.specs.Reads.{account, position, exposure, request, basket}
-use Rattle.rules.specs.Requests.{is_in_use}
-use Rattle.rules.specs.Stock.{participant_set_up, security_set_up, basket_set_up}
-use Rattle.reads.proofs.Codes.{by_damage, by_rules, row_far, row_unused, row_used, nominal_far, security_far, nominal_unused, security_unused, nominal_known, used_at, in_use_known}
+use Rattle.rules.specs.Reads.{basket}
+use Rattle.rules.specs.Stock.{basket_set_up}
+use Rattle.reads.proofs.Codes.{by_damage, by_rules, row_far, row_unused, row_used, used_at}
 use Rattle.reads.proofs.basket.Goals as goal
 
 pub returns-in_err-book-clause-code : goal.returns-in_err-book-clause-code

@@ -1,6 +1,6 @@
 -- `reads::request_answer` meets its contract: the numbers below `k` are filled in.
 -- Assumes nothing.
-use Prim.Native.Nat.{◌-◌, ◌≤◌}
+use Prim.Native.Nat.{◌≤◌}
 use mathlib.Core.Path.{◌≡◌}
 use Rattle.laws.specs.Filled.{filled}
 use Rattle.book.specs.State.{state}

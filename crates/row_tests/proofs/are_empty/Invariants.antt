@@ -1,6 +1,6 @@
 -- `row_tests::are_empty` meets its contract: the bytes below `k` are seen.
 -- Assumes nothing.
-use Prim.Native.Nat.{◌-◌, ◌≤◌}
+use Prim.Native.Nat.{◌≤◌}
 use lib.ListN.{length}
 use Rattle.row_tests.proofs.Empty.{Seen}
 use Rattle.row_tests.proofs.are_empty.Given as goal

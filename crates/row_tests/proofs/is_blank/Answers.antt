@@ -11,7 +11,6 @@ use Rattle.std.proofs.lemmas.Iterator.Search.{all_from_yields_List}
 use Rattle.book.specs.State.{state}
 use Rattle.book.specs.Tables.{number}
 use Rattle.book.specs.declared.layout.Table.{Table}
-use Rattle.rules.specs.ByRow.{same}
 use Rattle.row_tests.proofs.Named.{all_named}
 use Rattle.row_tests.proofs.is_blank.Goals as goal
 
