@@ -4,6 +4,7 @@ use mathlib.Core.Path.{◌≡◌, refl, sym, ◌∙◌}
 use mathlib.Core.Bool.{true, false}
 use mathlib.Core.List.{List}
 use Prim.Native.Nat.{ℕ, zero, suc, ◌+◌, ◌*◌, ◌<◌}
+use mathlib.Core.Logic.{◌⊎◌, inl, inr}
 use native.Mathlib.Decide.{dec_lt}
 use native.Mathlib.Omega.{arith}
 use lib.Dec.{eqb}
@@ -20,45 +21,44 @@ use Rattle.rules.specs.Sound.{sound}
 use Rattle.rules.specs.Stock.{holding}
 use Rattle.facts.proofs.Rules.{none_applies}
 use Rattle.accounts.specs.Accounts.{AccountRoom, AccountHolds}
+use Rattle.record_kinds.specs.Numbered.{kind_number}
+use Rattle.record_kinds.specs.declared.Kind.{Kind}
+use Rattle.record_kinds.specs.declared.Kind.TheVariants.{Opening, Participant, Settle, Mark}
 use Rattle.engine.specs.Accepted.{Taken, Accepted}
 use Rattle.totals.specs.Totals.{totals_of}
 use Rattle.totals.specs.declared.Totals as totals
 
 -- the code and the step of a kind, by the lists of all
-module _ (s : State) (r : List ℕ) (k j : ℕ) (e : k ≡ j) where
-  pub by_code : {c : ℕ} → c ≡ lowest (get_or (rules_of s r) j unknown_kind) → c ≡ code_of s k r
+module _ (s : State) (r : List ℕ) (k : ℕ) where
+  pub by_code : {c : ℕ} → c ≡ lowest (get_or (rules_of s r) k unknown_kind) → c ≡ code_of s k r
   unfolding code_of
-  by_code f = rw e f
+  by_code f = f
 
-  pub by_totals : {t : totals.Totals} → t ≡ totals_of (get_or (steps_of s r) j (silent s)) → t ≡ totals_of (step_of s k r)
+  pub by_totals : {t : totals.Totals} → t ≡ totals_of (get_or (steps_of s r) k (silent s)) → t ≡ totals_of (step_of s k r)
   unfolding step_of
-  by_totals f = rw e f
+  by_totals f = f
 
-  pub by_state : {t : State} → t ≡ (get_or (steps_of s r) j (silent s)).state → t ≡ (step_of s k r).state
+  pub by_state : {t : State} → t ≡ (get_or (steps_of s r) k (silent s)).state → t ≡ (step_of s k r).state
   unfolding step_of
-  by_state f = rw e f
+  by_state f = f
 
--- 9 settle and 10 mark have no rule
-pub no_code : (s : State) (r : List ℕ) (k : ℕ) → 8 < k → k < 11 → 0 ≡ code_of s k r
-no_code s r k h l = elim (dec_lt k 10) [
-  | yes m ↦ let e : k ≡ 9 = omega arith in by_code s r k 9 e refl
-  | no m ↦ let e : k ≡ 10 = omega arith in by_code s r k 10 e refl
-]
+-- a participant, a settle and a mark have no rule
+pub no_code : (s : State) (r : List ℕ) {k : Kind} → (k ≡ Participant) ⊎ ((k ≡ Settle) ⊎ (k ≡ Mark)) → 0 ≡ code_of s (kind_number k) r
+unfolding code_of
+no_code s r (inl e) = rw e refl
+no_code s r (inr (inl e)) = rw e refl
+no_code s r (inr (inr e)) = rw e refl
 
-module _ (s : State) (k : ℕ) (r : List ℕ) where
-  -- kinds 0 to 5 answer nothing
-  pub silent_totals : k < 6 → record { a = 0; b = 0; m = 0 } ≡ totals_of (step_of s k r)
-  unfolding step_of opened priced enrolled basket_made deposited withdrawn
-  silent_totals l = by_kind k l
-    where
-      by_kind : (k : ℕ) → k < 6 → record { a = 0; b = 0; m = 0 } ≡ totals_of (step_of s k r)
-      by_kind zero l = refl
-      by_kind (suc zero) l = refl
-      by_kind (suc (suc zero)) l = refl
-      by_kind (suc (suc (suc zero))) l = refl
-      by_kind (suc (suc (suc (suc zero)))) l = refl
-      by_kind (suc (suc (suc (suc (suc zero))))) l = refl
-      by_kind (suc (suc (suc (suc (suc (suc k)))))) l = absurd (omega arith)
+-- kinds 0 to 5 answer nothing
+pub silent_totals : (s : State) (k : ℕ) (r : List ℕ) → k < 6 → record { a = 0; b = 0; m = 0 } ≡ totals_of (step_of s k r)
+unfolding step_of opened priced enrolled basket_made deposited withdrawn
+silent_totals s zero r l = refl
+silent_totals s (suc zero) r l = refl
+silent_totals s (suc (suc zero)) r l = refl
+silent_totals s (suc (suc (suc zero))) r l = refl
+silent_totals s (suc (suc (suc (suc zero)))) r l = refl
+silent_totals s (suc (suc (suc (suc (suc zero))))) r l = refl
+silent_totals s (suc (suc (suc (suc (suc (suc k)))))) r l = absurd (omega arith)
 
 -- what a deposit's and a withdrawal's step count on
 module _ (s : State) (r : List ℕ) where
@@ -74,14 +74,10 @@ module _ (s : State) (r : List ℕ) where
       let t = none_applies (withdrawal_rules s r) refl h in
       record { holds = ltb-false (s accounts (64 * get_or r 0 0 + get_or r 1 0)) (get_or r 2 0) t.1.1.0 }
 
--- what the functions of a kind ask of the book and the record
-module _ (b r : List ℕ) (k j : ℕ) (e : k ≡ j) where
-  pub legal_kind : Taken b k r → are_legal j r ≡ true
-  legal_kind t = rw e at t.legal
+-- what the functions of a kind ask of the book
+pub sound_kind_lem : {b : List ℕ} {k : Kind} → Taken b k → (k ≡ Opening → ⊥) → sound (state b) ≡ true
+sound_kind_lem t n = t.sound_book n
 
-  pub sound_kind_lem : Taken b k r → eqb j 0 ≡ false → sound (state b) ≡ true
-  sound_kind_lem t n = t.sound_book (λ z. eqb-false j 0 n (sym e ∙ z))
-
-pub no_rule_kind : (j : ℕ) (b r : List ℕ) (k : ℕ) → k ≡ j → Accepted b k r → lowest (get_or (rules_of (state b) r) j unknown_kind) ≡ 0
+pub no_rule_kind : {b r : List ℕ} {k : Kind} → Accepted b k r → lowest (get_or (rules_of (state b) r) (kind_number k) unknown_kind) ≡ 0
 unfolding code_of
-no_rule_kind j b r k e a = rw e at a.no_rule
+no_rule_kind a = a.no_rule

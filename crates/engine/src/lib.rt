@@ -62,7 +62,7 @@ fn take_step(book: &mut Book, legal: &Record) -> Totals
 
 // The outcome of a call: the numbers of an accepted record, which takes its step, or why it is refused.
 fn outcome(book: &mut [u8], bytes: &[u8]) -> Result<Totals, Refusal>
-    ensures book_after { book.new ≡ call_book book.old bytes.now }
+    ensures left { book.new ≡ call_book book.old bytes.now }
     ensures value { answer_of result ≡ call_answer book.old bytes.now }
 {
     let Some(book) = book.as_mut_array() else {
