@@ -2,7 +2,7 @@
 // It uses the entries' promises alone, so an entry that promised less of the book or of its code would leave it unproved.
 #![tactic(auto)]
 
-ghost use Rattle.std.specs.Prelude.{◌≡◌, min, length, take};
+ghost use Rattle.std.specs.Prelude.{◌≡◌, length, take};
 ghost use Rattle.rules.specs.Reads.{read_code};
 ghost use Rattle.replay.specs.Replay.{read_of, calls_of, One, Ran};
 
@@ -13,40 +13,37 @@ pub struct Done {
     pub length: usize,
 }
 
-// The code of a read by its number.
+// The code of a read by its number: the words of a table of calls are numbers, as the theorem over lists of calls has them.
 fn read_code(book: &[u8], what: u64, x: u64, y: u64) -> u64
     ensures { result ≡ read_code book.now (read_of what x y) }
 {
-    if what < 2 {
-        let mut answer = [0u64; 2];
-        reads::reads_account(book, x, y, &mut answer);
-        return answer[0];
+    match what {
+        0 | 1 => {
+            let mut answer = [0u64; 2];
+            reads::reads_account(book, x, y, &mut answer);
+            answer[0]
+        }
+        2 => {
+            let mut answer = [0u64; 2];
+            reads::reads_position(book, x, y, &mut answer);
+            answer[0]
+        }
+        3 => {
+            let mut answer = [0u64; 6];
+            reads::reads_exposure(book, x, &mut answer);
+            answer[0]
+        }
+        4 => {
+            let mut answer = [0u64; 15];
+            reads::reads_request(book, x, &mut answer);
+            answer[0]
+        }
+        _ => {
+            let mut answer = [0u64; 5];
+            reads::reads_basket(book, x, &mut answer);
+            answer[0]
+        }
     }
-    if what == 2 {
-        let mut answer = [0u64; 2];
-        reads::reads_position(book, x, y, &mut answer);
-        return answer[0];
-    }
-    if what == 3 {
-        let mut answer = [0u64; 6];
-        reads::reads_exposure(book, x, &mut answer);
-        return answer[0];
-    }
-    if what == 4 {
-        let mut answer = [0u64; 15];
-        reads::reads_request(book, x, &mut answer);
-        return answer[0];
-    }
-    let mut answer = [0u64; 5];
-    reads::reads_basket(book, x, &mut answer);
-    answer[0]
-}
-
-// The lesser of two numbers.
-fn lesser(x: u64, len: usize) -> usize
-    ensures { result ≡ min x len }
-{
-    if x < len as u64 { x as usize } else { len }
 }
 
 // One call, by its three words and the bytes that are left, through the entry that it names.
@@ -59,7 +56,7 @@ fn run_one(book: &mut [u8], bytes: &[u8], what: u64, x: u64, y: u64) -> Done
             length: 0,
         };
     }
-    let length = lesser(x, bytes.len());
+    let length = x.min(bytes.len() as u64) as usize;
     let mut answer = [0u64; 4];
     engine::engine_call(book, &bytes[0..length], &mut answer);
     Done {
@@ -72,15 +69,13 @@ fn run_one(book: &mut [u8], bytes: &[u8], what: u64, x: u64, y: u64) -> Done
 pub fn run(book: &mut [u8], calls: &[u64], bytes: &[u8], codes: &mut [u64]) -> usize
     ensures { Ran (take (length codes.old) (calls_of calls.now bytes.now)) book.old book.new codes.old codes.new result }
 {
-    let n = lesser((calls.len() / 3) as u64, codes.len());
-    let mut k: usize = 0;
+    let n = (calls.len() / 3).min(codes.len());
     let mut at: usize = 0;
-    while k < n {
+    for k in 0..n {
         let i = 3 * k;
         let done = run_one(book, &bytes[at..], calls[i], calls[i + 1], calls[i + 2]);
         codes[k] = done.code;
         at += done.length;
-        k += 1;
     }
-    k
+    n
 }

@@ -7,6 +7,3 @@ use Rattle.replay.proofs.run.Given as goal
 
 abbrev pub invariant-loop-k : goal.invariant-loop-k
 invariant-loop-k l = Walk (length l.initial.codes) l.calls l.bytes l.initial.book l.book l.initial.codes l.codes l.k l.at
-
-abbrev pub decreases-loop-k : goal.decreases-loop-k
-decreases-loop-k l = l.n - l.k
