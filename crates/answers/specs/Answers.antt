@@ -1,9 +1,7 @@
 -- Document 01, "Codes", for the parts that work without the book: a code, and one number that is 0 in a refusal.
 -- Assumes nothing.
-use Rattle.std.specs.Prelude.{Bool, true, false, ℕ, Result, Ok, Err}
+use Rattle.std.specs.Prelude.{Bool, true, false, ℕ}
 use Rattle.answers.specs.declared.CodedValue.{CodedValue}
-use Rattle.answers.specs.declared.Refusal.{Refusal}
-use Rattle.answers.specs.Refusals.{number}
 
 -- 3: no or unknown kind, or body of another length
 abbrev pub malformed : ℕ
@@ -29,8 +27,3 @@ refused c = record { code = c; value = 0 }
 abbrev pub accepted_if : Bool → ℕ → ℕ → CodedValue
 accepted_if true c v = accepted v
 accepted_if false c v = refused c
-
--- what a host gets of an outcome
-abbrev pub coded : Result ℕ Refusal → CodedValue
-coded (Ok v) = accepted v
-coded (Err r) = refused (number r)

@@ -1,7 +1,9 @@
 -- "Codes": the number of each reason for a refusal, and the code of an outcome.
 -- Assumes nothing.
+use Rattle.answers.specs.declared.CodedValue.{CodedValue}
 use Rattle.std.specs.Prelude.{ℕ, Result, Ok, Err}
 use Rattle.answers.specs.declared.Refusal.{Refusal}
+use Rattle.answers.specs.Answers.{accepted, refused}
 use Rattle.answers.specs.declared.Refusal.TheVariants.{BookLength, UnsoundBook, Malformed, OutOfRange, NotSetUp, SetUpAgain, BadDay, SameParty, Automatic, TooMuch, TooLarge, NoneSuch, Settled, NoRow, NoExposure, NotCovered}
 
 abbrev pub number : Refusal → ℕ
@@ -42,3 +44,8 @@ number NotCovered = 16
 abbrev pub outcome_code : {A : Type 0} → Result A Refusal → ℕ
 outcome_code (Ok x) = 0
 outcome_code (Err r) = number r
+
+-- what a host gets of an outcome
+abbrev pub coded : Result ℕ Refusal → CodedValue
+coded (Ok v) = accepted v
+coded (Err r) = refused (number r)

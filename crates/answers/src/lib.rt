@@ -2,7 +2,8 @@
 #![tactic(auto)]
 
 ghost use Rattle.std.specs.Prelude.{◌≡◌};
-ghost use Rattle.answers.specs.Answers.{accepted, refused, coded};
+ghost use Rattle.answers.specs.Answers.{accepted, refused};
+ghost use Rattle.answers.specs.Refusals.{coded};
 ghost use Rattle.answers.specs.Refusals.{number};
 
 // The reasons, lowest code first: the number of each is the code that a host gets. An accepted call has code 0.

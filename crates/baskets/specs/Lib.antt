@@ -1,3 +1,4 @@
 pub mod Basket
 pub mod Fresh
 pub mod Report
+pub mod Outcome

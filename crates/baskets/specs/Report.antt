@@ -13,11 +13,6 @@ use Rattle.baskets.specs.declared.Report as declared
 abbrev pub summary : ℕ → Summary
 summary map = record { count = count (has_bit map) 64 0; lowest = least (has_bit map) 64 0 }
 
--- what a host gets of an outcome
-abbrev pub reported : Result Summary Refusal → declared.Report
-reported (Ok s) = record { code = 0; count = s.count; lowest = s.lowest }
-reported (Err r) = record { code = number r; count = 0; lowest = 0 }
-
 abbrev report_if : Bool → ℕ → declared.Report
 report_if true map = record { code = 0; count = (summary map).count; lowest = (summary map).lowest }
 report_if false map = record { code = out_of_range; count = 0; lowest = 0 }

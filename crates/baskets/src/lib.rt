@@ -6,7 +6,8 @@ ghost use Rattle.laws.specs.Bits.{has_bit};
 ghost use Rattle.laws.specs.Search.{count};
 ghost use Rattle.securities.specs.Bounds.{InBounds, AllInBounds};
 ghost use Rattle.baskets.specs.Fresh.{qualifies_by, eligible_by, NoneBefore, FreshAges, EligibilityFor};
-ghost use Rattle.baskets.specs.Report.{summary, reported, report};
+ghost use Rattle.baskets.specs.Report.{summary, report};
+ghost use Rattle.baskets.specs.Outcome.{reported};
 
 use answers::Refusal;
 use calendar::LAST_DAY;

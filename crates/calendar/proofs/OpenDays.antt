@@ -13,7 +13,8 @@ use Rattle.std.specs.Option.{MatchOption, unwrap_or}
 use Rattle.laws.specs.Search.{least}
 use Rattle.laws.proofs.Ranges.{IsLeastOf, least_le}
 use Rattle.laws.proofs.Cases.{clash}
-use Rattle.calendar.specs.Target.{open_day, next_open_day, open_day_after, last_day}
+use Rattle.calendar.specs.Target.{open_day, next_open_day, last_day}
+use Rattle.calendar.specs.Outcome.{open_day_after}
 
 -- no day past the last one is open
 pub past_closed : (d : ℕ) → last_day < d → open_day d ≡ false

@@ -7,11 +7,6 @@ use Rattle.answers.specs.Answers.{accepted_if, bad_day}
 use Rattle.calendar.specs.Gregorian.{one_if}
 use Rattle.calendar.specs.Target.{last_day, open_day, next_open_day, age}
 
--- the same outcome with 1 for yes and 0 for no
-abbrev pub as_number : Result Bool Refusal → Result ℕ Refusal
-as_number (Ok b) = Ok (one_if b)
-as_number (Err r) = Err r
-
 -- 1 for an open day, 0 for a closed one; 7 above 146,096
 unfoldable pub is_open_answer : ℕ → CodedValue
 is_open_answer d = accepted_if (leb d last_day) bad_day (one_if (open_day d))

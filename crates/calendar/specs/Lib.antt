@@ -4,3 +4,4 @@ pub mod Fresh
 pub mod Gregorian
 pub mod Target
 pub mod YearDay
+pub mod Outcome

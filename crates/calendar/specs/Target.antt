@@ -37,10 +37,6 @@ open_day d = not (ltb last_day d || (is_saturday d || (is_sunday d || holiday_of
 unfoldable pub next_open_day : ℕ → ℕ
 next_open_day d = least open_day (last_day - d) (d + 1)
 
--- the same where there is one
-abbrev pub open_day_after : ℕ → Option ℕ
-open_day_after d = cond (leb (next_open_day d) last_day) (Some (next_open_day d)) None
-
 -- "The age of a price is the number of open days after its quote day up to and including today"
 unfoldable pub age : ℕ → ℕ → ℕ
 age quote today = count open_day (today - quote) (quote + 1)

@@ -3,12 +3,14 @@
 #![tactic(auto)]
 
 ghost use Rattle.std.specs.Prelude.{◌≡◌, ◌+◌, ◌≤◌, ◌<◌};
-ghost use Rattle.answers.specs.Answers.{coded};
-ghost use Rattle.calendar.specs.Answers.{as_number, is_open_answer, next_open_day_answer, age_answer};
+ghost use Rattle.answers.specs.Refusals.{coded};
+ghost use Rattle.calendar.specs.Answers.{is_open_answer, next_open_day_answer, age_answer};
+ghost use Rattle.calendar.specs.Outcome.{as_number};
 ghost use Rattle.calendar.specs.Gregorian.{start_of, year_of};
 ghost use Rattle.calendar.specs.Easter.{easter};
 ghost use Rattle.calendar.specs.Fresh.{FreshDays};
-ghost use Rattle.calendar.specs.Target.{easter_holiday, holiday, open_day, open_day_after, next_open_day, age};
+ghost use Rattle.calendar.specs.Target.{easter_holiday, holiday, open_day, next_open_day, age};
+ghost use Rattle.calendar.specs.Outcome.{open_day_after};
 ghost use Rattle.calendar.specs.YearDay.{year_day};
 
 use answers::Refusal;

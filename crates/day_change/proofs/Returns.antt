@@ -6,7 +6,8 @@ use Prim.Native.Nat.{ℕ}
 use lib.Dec.{leb}
 use borrow.Author.Tests.{leb-true, leb-false, lt-ltb, le-ltb}
 use Rattle.std.specs.Prelude.{Some, None}
-use Rattle.calendar.specs.Target.{last_day, next_open_day, open_day_after}
+use Rattle.calendar.specs.Target.{last_day, next_open_day}
+use Rattle.calendar.specs.Outcome.{open_day_after}
 use Rattle.book.specs.Layout.{today}
 use Rattle.book.specs.State.{State}
 use Rattle.rules.specs.Codes.{next_day_rules}

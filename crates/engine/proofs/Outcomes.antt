@@ -12,7 +12,7 @@ use borrow.Author.Tests.{ne_eqb, eqb-true, not-false}
 use Rattle.std.specs.Prelude.{Result, Ok, Err}
 use Rattle.answers.specs.declared.Refusal.{Refusal}
 use Rattle.answers.specs.Refusals.{number, outcome_code}
-use Rattle.recalls.proofs.Returns.{refused as some_code}
+use Rattle.answers.proofs.Refusals.{number_some as some_code}
 use Rattle.laws.proofs.Cases.{either, and_right}
 use Rattle.book.specs.State.{state}
 use Rattle.book.proofs.Images.{image_state}
@@ -30,7 +30,7 @@ use Rattle.totals.specs.Totals.{totals_of}
 use Rattle.totals.specs.declared.Totals as totals
 use Rattle.damage.specs.Damage.{book_damage}
 use Rattle.damage.proofs.Damage.{Passed, passes, damaged_code, passed_code}
-use Rattle.engine.specs.Entry.{answer_of}
+use Rattle.engine.specs.Outcome.{answer_of}
 use Rattle.engine.specs.Accepted.{Taken, Accepted}
 
 -- a refusal: the code in the answer, and the book as it was

@@ -9,8 +9,3 @@ use Rattle.totals.specs.declared.Totals.{Totals}
 -- "The answer is code, A, B, M."
 abbrev pub numbers_of : Answer → List ℕ
 numbers_of a = a.code ∷ a.a ∷ a.b ∷ a.m ∷ []
-
--- code 0 with A, B and M of an accepted call; the code of a refusal, and "the answer's other fields are 0"
-abbrev pub answer_of : Result Totals Refusal → Answer
-answer_of (Ok t) = answer 0 t.a t.b t.m
-answer_of (Err r) = answer (number r) 0 0 0

@@ -1,2 +1,3 @@
 pub mod Accepted
 pub mod Entry
+pub mod Outcome

@@ -8,7 +8,8 @@ ghost use Rattle.record_kinds.specs.Numbered.{kind_number};
 ghost use Rattle.rules.specs.Call.{step_of, call_answer, call_book};
 ghost use Rattle.rules.specs.Codes.{code_of};
 ghost use Rattle.totals.specs.Totals.{totals_of};
-ghost use Rattle.engine.specs.Entry.{numbers_of, answer_of};
+ghost use Rattle.engine.specs.Entry.{numbers_of};
+ghost use Rattle.engine.specs.Outcome.{answer_of};
 ghost use Rattle.engine.specs.Accepted.{Taken, Accepted};
 
 use answers::Refusal;

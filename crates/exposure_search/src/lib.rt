@@ -2,7 +2,7 @@
 #![tactic(auto)]
 
 ghost use Rattle.std.specs.Prelude.{◌≡◌, ◌<◌, ltb};
-ghost use Rattle.laws.specs.Search.{found};
+ghost use Rattle.laws.specs.Found.{found};
 ghost use Rattle.book.specs.State.{state};
 ghost use Rattle.exposure_search.specs.Keys.{key_of, request_key, is_at, exposure_of};
 ghost use Rattle.exposure_search.specs.Slots.{slot_of_key, slot_of, with_hint, with_hints};

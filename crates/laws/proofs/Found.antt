@@ -16,7 +16,8 @@ use Rattle.std.specs.Iterator.{YieldsThen}
 use Rattle.std.specs.List.{FoldsTo}
 use Rattle.std.specs.Option.{MatchOption}
 use Rattle.std.proofs.iter.Yields.{nat_range_steps}
-use Rattle.laws.specs.Search.{least, found}
+use Rattle.laws.specs.Search.{least}
+use Rattle.laws.specs.Found.{found}
 use Rattle.laws.proofs.Ranges.{IsLeastOf, find_over_range}
 
 pub found_here : (n i : ℕ) → i < n → Some i ≡ found n i

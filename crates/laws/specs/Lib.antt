@@ -4,3 +4,4 @@ pub mod Lists
 pub mod Numbers
 pub mod Search
 pub mod Sum
+pub mod Found

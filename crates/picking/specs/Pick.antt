@@ -18,11 +18,6 @@ with_parcel i p o = record { nominals = set o.nominals i p.nominal; value = o.va
 abbrev pub but_not : ℕ → (ℕ → Bool) → ℕ → Bool
 but_not left test i = test i && not (eqb i left)
 
--- the same where there may be none to leave out
-abbrev pub but : Option ℕ → (ℕ → Bool) → ℕ → Bool
-but None test = test
-but (Some left) test = but_not left test
-
 module _ (columns account : List ℕ) (eligible : ℕ → Bool) where
   -- from security i, where it is eligible: as many whole lots as are worth no more than what remains
   unfoldable pub parcel_from : ℕ → ℕ → Parcel

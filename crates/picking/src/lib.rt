@@ -10,7 +10,8 @@ ghost use Rattle.securities.specs.Bounds.{AllInBounds, Within};
 ghost use Rattle.valuation.specs.Value.{value};
 ghost use Rattle.picking.specs.Free.{freed};
 ghost use Rattle.picking.specs.FreeSteps.{parcel_back, first_to_free};
-ghost use Rattle.picking.specs.Pick.{but, parcel_from, picked};
+ghost use Rattle.picking.specs.Pick.{parcel_from, picked};
+ghost use Rattle.picking.specs.Omitted.{but};
 
 use baskets::Eligibility;
 use parcels::{NO_PARCEL, Parcel};

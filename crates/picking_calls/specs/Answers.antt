@@ -24,15 +24,6 @@ pick_refused c = record { code = c; outcome = nothing }
 abbrev pub free_refused : ℕ → free.FreeAnswer
 free_refused c = record { code = c; freed = record { nominals = replicate 64 0; left = 0; count = 0 } }
 
--- what a host gets of a pick, and of a free
-abbrev pub pick_answer : Result Outcome Refusal → pick.PickAnswer
-pick_answer (Ok o) = record { code = 0; outcome = o }
-pick_answer (Err r) = pick_refused (number r)
-
-abbrev pub free_answer : Result Freed Refusal → free.FreeAnswer
-free_answer (Ok o) = record { code = 0; freed = o }
-free_answer (Err r) = free_refused (number r)
-
 -- the numbers that a pick is given are in their ranges: nominals, securities, a map that is not 0, an age of one byte, an amount up to 10^13
 unfoldable pub legal_pick : List ℕ → List ℕ → Basket → ℕ → Bool
 legal_pick columns account b amount =

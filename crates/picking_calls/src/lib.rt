@@ -2,7 +2,8 @@
 #![tactic(auto)]
 
 ghost use Rattle.std.specs.Prelude.{◌≡◌};
-ghost use Rattle.picking_calls.specs.Answers.{picked_for, freed_down, legal_pick, legal_days, legal_free, pick_answer, free_answer};
+ghost use Rattle.picking_calls.specs.Answers.{picked_for, freed_down, legal_pick, legal_days, legal_free};
+ghost use Rattle.picking_calls.specs.Outcome.{pick_answer, free_answer};
 
 use answers::Refusal;
 use baskets::Basket;

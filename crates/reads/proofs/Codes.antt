@@ -21,32 +21,14 @@ use Rattle.rules.specs.Requests.{is_in_use, is_used}
 use Rattle.rules.specs.Sound.{sound}
 use Rattle.facts.proofs.Searches.{least_le}
 use Rattle.laws.specs.Filled.{filled}
-use Rattle.laws.specs.Search.{found}
+use Rattle.laws.specs.Found.{found}
 use Rattle.laws.proofs.Found.{found_some, found_nothing}
 use Rattle.facts.proofs.Written.{sound_facts}
 use Rattle.facts.proofs.Rows.{used_or_not}
 use Rattle.damage.specs.Damage.{book_damage}
 use Rattle.damage.proofs.Damage.{passes, damaged_code, passed_code}
 use Rattle.reads.specs.Entries.{answer_by, used_rules, request_number}
-
--- a refusal has a code
-pub number_some : (r : Refusal) → number r ≡ 0 → ⊥
-number_some BookLength z = omega arith
-number_some UnsoundBook z = omega arith
-number_some Malformed z = omega arith
-number_some OutOfRange z = omega arith
-number_some NotSetUp z = omega arith
-number_some SetUpAgain z = omega arith
-number_some BadDay z = omega arith
-number_some SameParty z = omega arith
-number_some Automatic z = omega arith
-number_some TooMuch z = omega arith
-number_some TooLarge z = omega arith
-number_some NoneSuch z = omega arith
-number_some Settled z = omega arith
-number_some NoRow z = omega arith
-number_some NoExposure z = omega arith
-number_some NotCovered z = omega arith
+use Rattle.answers.proofs.Refusals.{number_some}
 
 -- a damaged book decides; after a sound one the read's rules do
 module _ (b : List ℕ) (q : Read) where

@@ -4,7 +4,7 @@
 
 ghost use Rattle.std.specs.Prelude.{◌≡◌, true, ◌<◌, ◌∷◌, IfOk};
 ghost use Rattle.laws.specs.Filled.{filled};
-ghost use Rattle.laws.specs.Search.{found};
+ghost use Rattle.laws.specs.Found.{found};
 ghost use Rattle.answers.specs.Refusals.{outcome_code};
 ghost use Rattle.book.specs.Layout.{rows_of};
 ghost use Rattle.book.specs.State.{state};

@@ -10,7 +10,6 @@ use lib.ListN.{length, get_or, take, drop}
 use borrow.Author.Tests.{eq-eqb, ne_eqb, lt-ltb, le-ltb}
 use Rattle.answers.specs.Refusals.{number}
 use Rattle.answers.specs.declared.Refusal.{Refusal}
-use Rattle.answers.specs.declared.Refusal.TheVariants.{BookLength, UnsoundBook, Malformed, OutOfRange, NotSetUp, SetUpAgain, BadDay, SameParty, Automatic, TooMuch, TooLarge, NoneSuch, Settled, NoRow, NoExposure, NotCovered}
 use Rattle.laws.proofs.Cases.{either}
 use Rattle.picking.specs.declared.Outcome.{Outcome}
 use Rattle.book.specs.Layout.{book_length, lots, modes, in_use, exposure_givers, positions}
@@ -35,6 +34,7 @@ use Rattle.marking_laws.proofs.Ranges.{RecallIn, recall_in}
 use Rattle.substitution.specs.Recalling.{Recalling}
 use Rattle.substitution.proofs.Accepting.{facts_of, ranges_of, exposure_in, good_in}
 use Rattle.recalls.specs.Codes.{names_code, holds_code}
+use Rattle.answers.proofs.Refusals.{number_some as refused}
 
 -- the ranges of a recall's fields
 pub ranges : (entry : Record) → entry.kind ≡ Recall → RecallIn entry.fields
@@ -95,25 +95,6 @@ module _ {book : List ℕ} {entry : Record} (k : Recalling book entry) (small : 
       rw (q, n)
       (pledges (recalled (state book) entry.fields) (field entry.fields 1) (substitutes (state book) entry.fields).nominals (kept_recalled (state book) entry.fields (good_in k small) (ranges_of k) k.recallable).good.facts
       (exposure_in k) k.recallable.used (pick_pledgeable (recalled (state book) entry.fields) (field entry.fields 1) _ _))
-
--- no refusal has the code of an accepted record
-pub refused : (r : Refusal) → number r ≡ 0 → ⊥
-refused BookLength e = omega arith
-refused UnsoundBook e = omega arith
-refused Malformed e = omega arith
-refused OutOfRange e = omega arith
-refused NotSetUp e = omega arith
-refused SetUpAgain e = omega arith
-refused BadDay e = omega arith
-refused SameParty e = omega arith
-refused Automatic e = omega arith
-refused TooMuch e = omega arith
-refused TooLarge e = omega arith
-refused NoneSuch e = omega arith
-refused Settled e = omega arith
-refused NoRow e = omega arith
-refused NoExposure e = omega arith
-refused NotCovered e = omega arith
 
 -- the code of all rules, one part after the other; the last is 16
 abbrev last_code : Bool → ℕ

@@ -6,7 +6,7 @@ use mathlib.Core.List.{List}
 use Prim.Native.Nat.{ℕ}
 use Rattle.std.specs.Prelude.{Option}
 use Rattle.std.specs.Option.{is_some}
-use Rattle.laws.specs.Search.{found}
+use Rattle.laws.specs.Found.{found}
 use Rattle.book.specs.State.{State}
 use Rattle.record_kinds.specs.Numbered.{kind_number}
 use Rattle.record_kinds.specs.declared.Kind.{Kind}

@@ -7,7 +7,7 @@ use Prim.Native.Nat.{ℕ}
 use borrow.Author.Tests.{lt-ltb}
 use Rattle.std.specs.Prelude.{Option, Some}
 use Rattle.std.specs.Option.{is_some, IsSome}
-use Rattle.laws.specs.Search.{found}
+use Rattle.laws.specs.Found.{found}
 use Rattle.laws.proofs.Found.{found_some}
 use Rattle.book.specs.State.{State}
 use Rattle.record_kinds.specs.Numbered.{kind_number}

@@ -12,7 +12,8 @@ use borrow.Author.Tests.{ne_eqb, lt-ltb, le-ltb, not-true, not-false}
 use Rattle.std.specs.Prelude.{Option, Some, None}
 use Rattle.std.specs.Bool.{⊤}
 use Rattle.std.specs.Option.{MatchOption, unwrap_or}
-use Rattle.laws.specs.Search.{least_by, found}
+use Rattle.laws.specs.Search.{least_by}
+use Rattle.laws.specs.Found.{found}
 use Rattle.laws.proofs.Found.{found_here, found_none, found_some}
 use Rattle.book.specs.Layout.{numbers}
 use Rattle.book.specs.State.{State}

@@ -8,7 +8,8 @@ use lib.Dec.{eqb}
 use borrow.Author.Tests.{eq-eqb}
 use Rattle.std.specs.Prelude.{Option, Some, None}
 use Rattle.std.specs.Option.{is_some}
-use Rattle.laws.specs.Search.{least, found}
+use Rattle.laws.specs.Search.{least}
+use Rattle.laws.specs.Found.{found}
 use Rattle.laws.proofs.Cases.{clash}
 use Rattle.laws.proofs.Found.{found_nothing}
 use Rattle.facts.proofs.Searches.{least_le}

@@ -4,7 +4,8 @@
 ghost use Rattle.std.specs.Prelude.{◌≡◌, not, ◌&&◌, ◌<◌, ◌≤◌, eqb, MatchOption};
 ghost use Rattle.std.specs.Bool.{⊤};
 ghost use Rattle.std.specs.Option.{unwrap_or};
-ghost use Rattle.laws.specs.Search.{least, found};
+ghost use Rattle.laws.specs.Search.{least};
+ghost use Rattle.laws.specs.Found.{found};
 ghost use Rattle.book.specs.Layout.{rows_of};
 ghost use Rattle.book.specs.State.{state};
 ghost use Rattle.book.specs.Tables.{number};

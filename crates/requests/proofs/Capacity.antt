@@ -9,7 +9,7 @@ use lib.ListN.{get_or}
 use borrow.Author.Tests.{eqb-false, ne_eqb, lt-ltb}
 use Rattle.std.specs.Prelude.{Option, Some}
 use Rattle.std.specs.Option.{IsSome}
-use Rattle.laws.specs.Search.{found}
+use Rattle.laws.specs.Found.{found}
 use Rattle.laws.proofs.Found.{found_some}
 use Rattle.laws.proofs.Cases.{clash}
 use Rattle.book.specs.Layout.{next_number, partners}

@@ -10,8 +10,7 @@ use borrow.Author.Tests.{eq-eqb, ne_eqb, le-ltb}
 use Rattle.std.specs.Prelude.{Option, None}
 use Rattle.answers.specs.Refusals.{number}
 use Rattle.answers.specs.declared.Refusal.{Refusal}
-use Rattle.answers.specs.declared.Refusal.TheVariants.{BookLength, UnsoundBook, Malformed, OutOfRange, NotSetUp, SetUpAgain, BadDay, SameParty, Automatic, TooMuch, TooLarge, NoneSuch, Settled, NoRow, NoExposure, NotCovered}
-use Rattle.laws.specs.Search.{found}
+use Rattle.laws.specs.Found.{found}
 use Rattle.laws.proofs.Found.{found_nothing}
 use Rattle.facts.proofs.Searches.{least_le}
 use Rattle.facts.proofs.Rules.{stops, goes_on}
@@ -23,25 +22,7 @@ use Rattle.rules.specs.Fields.{giver_in, taker_in, basket_or_exposure_in}
 use Rattle.rules.specs.Requests.{is_exposure_of}
 use Rattle.rules.specs.Requesting.{is_own_request, own_request}
 use Rattle.request_codes.specs.Rules.{party_rules, settlement_rules, taker_rules, row_rules, exposure_rules, fop_name_rules}
-
--- a refusal has a code
-refused : (x : Refusal) → number x ≡ 0 → ⊥
-refused BookLength e = absurd (omega (e, arith))
-refused UnsoundBook e = absurd (omega (e, arith))
-refused Malformed e = absurd (omega (e, arith))
-refused OutOfRange e = absurd (omega (e, arith))
-refused NotSetUp e = absurd (omega (e, arith))
-refused SetUpAgain e = absurd (omega (e, arith))
-refused BadDay e = absurd (omega (e, arith))
-refused SameParty e = absurd (omega (e, arith))
-refused Automatic e = absurd (omega (e, arith))
-refused TooMuch e = absurd (omega (e, arith))
-refused TooLarge e = absurd (omega (e, arith))
-refused NoneSuch e = absurd (omega (e, arith))
-refused Settled e = absurd (omega (e, arith))
-refused NoRow e = absurd (omega (e, arith))
-refused NoExposure e = absurd (omega (e, arith))
-refused NotCovered e = absurd (omega (e, arith))
+use Rattle.answers.proofs.Refusals.{number_some as refused}
 
 -- a group that refuses, and one that does not
 here : (x : Refusal) (first later : List Rule) → number x ≡ lowest first → number x ≡ lowest (first ++ later)

@@ -8,7 +8,7 @@ use lib.Dec.{ltb}
 use lib.ListN.{get_or}
 use borrow.Author.Tests.{eq-eqb, ne_eqb, lt-ltb, le-ltb}
 use Rattle.std.specs.Prelude.{Option, Some, None}
-use Rattle.laws.specs.Search.{found}
+use Rattle.laws.specs.Found.{found}
 use Rattle.laws.proofs.Found.{found_some, found_nothing}
 use Rattle.book.specs.Layout.{next_number, numbers, partners, ends}
 use Rattle.book.specs.State.{State, put}

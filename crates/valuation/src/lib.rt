@@ -2,7 +2,7 @@
 #![tactic(auto)]
 
 ghost use Rattle.std.specs.Prelude.{◌≡◌, ◌≤◌};
-ghost use Rattle.answers.specs.Answers.{coded};
+ghost use Rattle.answers.specs.Refusals.{coded};
 ghost use Rattle.limits.specs.Limits.{greatest_nominal};
 ghost use Rattle.valuation.specs.Value.{value, legal_pricing, valued};
 ghost use Rattle.valuation.specs.Inverse.{Bounded, nominal_within};

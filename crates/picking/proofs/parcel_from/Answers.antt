@@ -2,7 +2,7 @@
 -- Assumes nothing.
 use Rattle.baskets.specs.Fresh.{eligible_by}
 use Rattle.parcels.specs.Lots.{parcel_to_pick}
-use Rattle.picking.specs.Pick.{but}
+use Rattle.picking.specs.Omitted.{but}
 use Rattle.securities.specs.Security.{security_at}
 use lib.ListN.{get_or}
 use mathlib.Core.Path.{◌≡◌, sym, ◌∙◌}

@@ -4,7 +4,8 @@ use mathlib.Core.Path.{◌≡◌, refl, ap, ◌∙◌}
 use Prim.Native.Nat.{◌-◌, ◌≤◌}
 use native.Mathlib.Omega.{arith}
 use Rattle.baskets.specs.Fresh.{eligible_by}
-use Rattle.picking.specs.Pick.{but, picked_below}
+use Rattle.picking.specs.Pick.{picked_below}
+use Rattle.picking.specs.Omitted.{but}
 use Rattle.picking.specs.declared.Outcome.{Outcome}
 use Rattle.picking.proofs.Picks.{counts, parcel_worth, picked_value, picked_count, picked_next}
 use Rattle.picking.proofs.pick.Goals as goal

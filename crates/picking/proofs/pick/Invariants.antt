@@ -3,7 +3,8 @@
 use mathlib.Core.Path.{◌≡◌}
 use Prim.Native.Nat.{◌≤◌}
 use Rattle.baskets.specs.Fresh.{eligible_by}
-use Rattle.picking.specs.Pick.{but, picked_below}
+use Rattle.picking.specs.Pick.{picked_below}
+use Rattle.picking.specs.Omitted.{but}
 use Rattle.picking.specs.declared.Outcome.{Outcome}
 use Rattle.picking.proofs.pick.Given as goal
 

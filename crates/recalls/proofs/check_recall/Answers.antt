@@ -4,7 +4,8 @@ use mathlib.Core.Path.{refl}
 use native.Mathlib.Omega.{arith}
 use Rattle.std.proofs.lemmas.Result.{err_from_is_err_and}
 use Rattle.book.specs.State.{state}
-use Rattle.recalls.proofs.Returns.{refused, code_holds, all_passed, code_none, code_refused}
+use Rattle.answers.proofs.Refusals.{number_some as refused}
+use Rattle.recalls.proofs.Returns.{code_holds, all_passed, code_none, code_refused}
 use Rattle.recalls.proofs.check_recall.Goals as goal
 
 pub returns-in_err-check_holds : goal.returns-in_err-check_holds

@@ -2,7 +2,7 @@
 -- Assumes nothing.
 use mathlib.Core.Path.{◌≡◌}
 use Prim.Native.Nat.{◌≤◌}
-use Rattle.laws.specs.Search.{found}
+use Rattle.laws.specs.Found.{found}
 use Rattle.book.specs.State.{state}
 use Rattle.record_kinds.specs.Numbered.{kind_number}
 use Rattle.request_search.proofs.Earliest.{best_of}
