@@ -10,7 +10,6 @@ use Rattle.securities.specs.Bounds.{AllInBounds, Within}
 use Rattle.book.specs.Layout.{in_use, exposure_baskets, exposure_amounts}
 use Rattle.book.specs.State.{state}
 use Rattle.book.proofs.Images.{state_fits}
-use Rattle.eligibility.specs.declared.Prices.{Prices}
 use Rattle.rules.specs.Stock.{basket_of, position_of}
 use Rattle.facts.proofs.Written.{sound_facts}
 use Rattle.facts.specs.Good.{Sound, Good}
@@ -18,7 +17,7 @@ use Rattle.facts.proofs.Rows.{Exposure, used_exposure}
 use Rattle.facts.proofs.Stock.{columns_bounded, age_le, position_within}
 use Rattle.bonds.specs.Moves.{SoundBook}
 
-module _ {book : List ℕ} {prices : Prices} (m : SoundBook book prices) where
+module _ {book columns : List ℕ} (m : SoundBook book columns) where
   pub facts_of : Sound (state book)
   facts_of = sound_facts (state book) m.sound_book
 
@@ -26,8 +25,8 @@ module _ {book : List ℕ} {prices : Prices} (m : SoundBook book prices) where
   pub good_of : ((i : ℕ) → get_or book i 0 < 256) → Good (state book)
   good_of small = record { facts = facts_of; fits = state_fits book m.long small }
 
-  pub bounded : AllInBounds prices.columns
-  bounded = rw m.priced.columns (columns_bounded (state book) facts_of)
+  pub bounded : AllInBounds columns
+  bounded = rw m.securities (columns_bounded (state book) facts_of)
 
   module _ {e : ℕ} (below : e < 64) where
     pub row_within : {row : List ℕ} → row ≡ position_of (state book) e → Within (nominals_of row)

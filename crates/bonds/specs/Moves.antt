@@ -4,18 +4,16 @@ use Rattle.std.specs.Prelude.{◌≡◌, true, List, ℕ, ◌+◌, ◌*◌, ◌<
 use Rattle.book.specs.Layout.{book_length, exposure_givers, exposure_baskets, accounts, positions}
 use Rattle.book.specs.State.{State, state, columns_of, lowered}
 use Rattle.book.specs.Fits.{Raisable, Lowerable}
-use Rattle.eligibility.specs.Fresh.{PricesOf}
-use Rattle.eligibility.specs.declared.Prices.{Prices}
 use Rattle.rules.specs.Sound.{sound}
 use Rattle.rules.specs.Stock.{account_of, position_of}
 use Rattle.securities.specs.Position.{nominals_of}
 use Rattle.securities.specs.Bounds.{AllInBounds, Within}
 
--- a sound book with what its prices are worth
-pub record SoundBook (book : List ℕ) (prices : Prices) : Type 0 where
+-- a sound book with its securities
+pub record SoundBook (book columns : List ℕ) : Type 0 where
   pub long : length book ≡ book_length
   pub sound_book : sound (state book) ≡ true
-  pub priced : PricesOf (state book) prices
+  pub securities : columns ≡ columns_of (state book)
 
 -- bonds may go from the account of an exposure's giver into its position, and back
 pub record Pledging (s : State) (e : ℕ) (by : List ℕ) : Type 0 where

@@ -1,7 +1,7 @@
 // What a call and a read begin with: a book of the right length that is sound.
 #![tactic(auto)]
 
-ghost use Rattle.std.specs.Prelude.{◌≡◌, false, IfOk};
+ghost use Rattle.std.specs.Prelude.{◌≡◌, IfOk};
 ghost use Rattle.answers.specs.Refusals.{outcome_code};
 ghost use Rattle.rules.specs.Call.{opens};
 ghost use Rattle.damage.specs.Damage.{book_damage};
@@ -27,12 +27,12 @@ pub fn check_sound(book: &Book, opening: bool) -> Result<(), Refusal>
     }
 }
 
-// The book of a read: one of the right length that is sound.
-pub fn sound_book(book: &[u8]) -> Result<&Book, Refusal>
-    ensures code { outcome_code result ≡ book_damage book.now false }
+// The book lent, where it has the right length and is sound.
+pub fn sound_book(book: &[u8], opening: bool) -> Result<&Book, Refusal>
+    ensures code { outcome_code result ≡ book_damage book.now opening }
     ensures same { IfOk result (λ sound. sound.now ≡ book.now) }
 {
     let book = book.as_array().ok_or(Refusal::BookLength)?;
-    check_sound(book, false)?;
+    check_sound(book, opening)?;
     Ok(book)
 }

@@ -73,7 +73,7 @@ impl Prices {
 
 // Which securities are eligible for an exposure, by the first fresh days.
 pub fn eligibility_of(book: &Book, prices: &Prices, e: usize) -> Eligibility
-    requires { (e < 64) × (state book.now exposure_baskets e < 16) × PricesOf (state book.now) prices.now }
+    requires { (e < 64) × (state book.now exposure_baskets e < 16) × FreshBaskets (state book.now) prices.now.since }
     ensures { EligibilityFor (basket_of (state book.now) e) (state book.now today 0) (columns_of (state book.now)) result }
 {
     let b = book::get(book, Table::ExposureBaskets, e) as usize;

@@ -24,7 +24,7 @@ fn check(book: &Book, legal: &Record) -> Result<(), Refusal>
     ensures { outcome_code result ≡ code_of (state book.now) (kind_number legal.now.kind) legal.now.fields }
 {
     match legal.kind {
-        Kind::Opening => setup::check_opening(legal),
+        Kind::Opening => setup::check_opening(&legal.fields),
         Kind::Price => setup::check_price(book, legal),
         Kind::Basket => setup::check_basket(book, legal),
         Kind::Deposit => accounts::check_deposit(book, legal),

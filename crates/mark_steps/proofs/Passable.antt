@@ -1,6 +1,6 @@
 -- The three steps: each keeps a sound book with the same securities, and touches its own exposure's position alone.
 -- Assumes nothing.
-use mathlib.Core.Path.{◌≡◌}
+use mathlib.Core.Path.{◌≡◌, sym, ◌∙◌}
 use mathlib.Core.List.{List}
 use Prim.Native.Nat.{ℕ, ◌<◌}
 use lib.ListN.{length, get_or}
@@ -8,8 +8,6 @@ use native.Mathlib.Omega.{arith}
 use mathlib.Core.Bool.{Bool}
 use Rattle.book.specs.Layout.{book_length, in_use, today, greatest_ages}
 use Rattle.eligibility.specs.Fresh.{SamePrices}
-use Rattle.eligibility.specs.declared.Prices.{Prices}
-use Rattle.eligibility.proofs.Fresh.{prices_same}
 use Rattle.marking_laws.proofs.Moved.{Bonds}
 use Rattle.book.specs.State.{State, state}
 use Rattle.bonds.specs.Moves.{SoundBook}
@@ -45,13 +43,14 @@ pub third_pass : Passable shortfall_in
 third_pass = record { local = own_shortfall; keep = kept_shortfall }
 
 -- what such a step leaves
-pub stepped_on : {step : State → ℕ → State} {prices : Prices} {book after : List ℕ} {e : ℕ} {has_moved : Bool} → Passable step → SoundBook book prices → ((i : ℕ) → get_or book i 0 < 256) → e < 64
-    → length after ≡ book_length → state after ≡ on_used step (state book) e → has_moved ≡ moved (state book) (state after) e → Stepped step prices book after e has_moved
-stepped_on {step} {prices} {book} {after} {e} p m small below l q k =
+pub stepped_on : {step : State → ℕ → State} {columns book after : List ℕ} {e : ℕ} {has_moved : Bool} → Passable step → SoundBook book columns → ((i : ℕ) → get_or book i 0 < 256) → e < 64
+    → length after ≡ book_length → state after ≡ on_used step (state book) e → has_moved ≡ moved (state book) (state after) e → Stepped step columns book after e has_moved
+stepped_on {step} {columns} {book} {after} {e} p m small below l q k =
     let g : Good (state after) = rw q (used_cases step Good (state book) e (λ u. (p.keep (state book) e (good_of m small) below u).good) (good_of m small)) in
-    let b = (own_used step p.local (state book) e).bonds in
+    let same = prices_kept (own_used step p.local (state book) e).bonds in
     record {
-      book = record { long = l; sound_book = facts_sound (state after) g.facts; priced = rw q (prices_same (prices_kept b) m.priced) };
+      book = record { long = l; sound_book = facts_sound (state after) g.facts; securities = rw q (m.securities ∙ sym same.columns) };
+      kept = rw q same;
       stepped = q;
       told = k;
     }

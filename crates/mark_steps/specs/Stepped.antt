@@ -5,13 +5,14 @@ use Rattle.baskets.specs.Fresh.{eligible_by}
 use Rattle.baskets.specs.declared.Eligibility.{Eligibility}
 use Rattle.book.specs.State.{State, state}
 use Rattle.bonds.specs.Moves.{SoundBook}
-use Rattle.eligibility.specs.declared.Prices.{Prices}
+use Rattle.eligibility.specs.Fresh.{SamePrices}
 use Rattle.rules.specs.Marking.{moved}
 use Rattle.marking_laws.specs.Pass.{on_used}
 
--- a step on one exposure: the book, sound and with the same prices, and whether the exposure's position is another
-pub record Stepped (step : State → ℕ → State) (prices : Prices) (before after : List ℕ) (e : ℕ) (has_moved : Bool) : Type 0 where
-  pub book : SoundBook after prices
+-- a step on one exposure: the book, sound and with the same securities and prices, and whether the exposure's position is another
+pub record Stepped (step : State → ℕ → State) (columns before after : List ℕ) (e : ℕ) (has_moved : Bool) : Type 0 where
+  pub book : SoundBook after columns
+  pub kept : SamePrices (state before) (state after)
   pub stepped : state after ≡ on_used step (state before) e
   pub told : has_moved ≡ moved (state before) (state after) e
 

@@ -7,6 +7,7 @@ ghost use Rattle.laws.specs.Search.{all};
 ghost use Rattle.book.specs.Layout.{book_length};
 ghost use Rattle.book.specs.State.{state};
 ghost use Rattle.bonds.specs.Moves.{SoundBook, GivingBack};
+ghost use Rattle.eligibility.specs.Fresh.{FreshBaskets};
 ghost use Rattle.rules.specs.Marking.{moved, ineligible_back, excess_back, shortfall_in, missing_of};
 ghost use Rattle.rules.specs.Stock.{position_of, give_back};
 ghost use Rattle.securities.specs.Bounds.{AllInBounds};
@@ -80,8 +81,8 @@ fn may_all_stay(book: &Book, columns: &[u64; 256], x: Eligibility, e: usize) -> 
 
 // First pass: gives back what is not eligible. Was there anything?
 pub fn give_ineligible(book: &mut Book, prices: &Prices, e: usize) -> bool
-    requires { SoundBook book.old prices.now × (e < 64) }
-    ensures { Stepped ineligible_back prices.now book.old book.new e result }
+    requires { SoundBook book.old prices.now.columns × (e < 64) × FreshBaskets (state book.old) prices.now.since }
+    ensures { Stepped ineligible_back prices.now.columns book.old book.new e result }
 {
     if book::get(book, Table::InUse, e) != 1 {
         return false;
@@ -98,8 +99,8 @@ pub fn give_ineligible(book: &mut Book, prices: &Prices, e: usize) -> bool
 
 // Second pass: frees the position down to the exposure's amount. An exposure that is not used lacks nothing.
 pub fn free_excess(book: &mut Book, prices: &Prices, e: usize) -> Passed
-    requires { SoundBook book.old prices.now × (e < 64) }
-    ensures { Stepped excess_back prices.now book.old book.new e result.moved × (result.missing ≡ missing_of (state book.new) e) }
+    requires { SoundBook book.old prices.now.columns × (e < 64) }
+    ensures { Stepped excess_back prices.now.columns book.old book.new e result.moved × (result.missing ≡ missing_of (state book.new) e) }
 {
     if book::get(book, Table::InUse, e) != 1 {
         return Passed {
@@ -119,8 +120,8 @@ pub fn free_excess(book: &mut Book, prices: &Prices, e: usize) -> Passed
 
 // Third pass: picks what is missing. A position is valued anew, each security at its whole nominal, where it took in.
 pub fn search_missing(book: &mut Book, prices: &Prices, e: usize, missing: u64) -> Passed
-    requires { SoundBook book.old prices.now × (e < 64) × (missing ≡ missing_of (state book.old) e) }
-    ensures { Stepped shortfall_in prices.now book.old book.new e result.moved × (result.missing ≡ missing_of (state book.new) e) }
+    requires { SoundBook book.old prices.now.columns × (e < 64) × (missing ≡ missing_of (state book.old) e) × FreshBaskets (state book.old) prices.now.since }
+    ensures { Stepped shortfall_in prices.now.columns book.old book.new e result.moved × (result.missing ≡ missing_of (state book.new) e) }
 {
     if missing == 0 {
         return Passed {

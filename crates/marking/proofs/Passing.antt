@@ -14,7 +14,9 @@ use Rattle.laws.proofs.Cases.{either}
 use Rattle.securities.specs.Position.{worth, nominals_of}
 use Rattle.book.specs.Layout.{in_use, exposure_amounts, positions}
 use Rattle.book.specs.State.{State, state, columns_of}
+use Rattle.eligibility.specs.Fresh.{FreshBaskets}
 use Rattle.eligibility.specs.declared.Prices.{Prices}
+use Rattle.eligibility.proofs.Fresh.{fresh_same}
 use Rattle.bonds.specs.Moves.{SoundBook}
 use Rattle.bonds.proofs.Rows.{amount_le}
 use Rattle.facts.proofs.Filled.{filled_same}
@@ -41,8 +43,8 @@ bonds_between : {s t u : State} → Bonds s t → Bonds s u → Bonds t u
 bonds_between b c = record { others = λ g j a p. c.others g j a p ∙ sym (b.others g j a p) }
 
 -- no more than an amount is missing
-pub missing_le : {book : List ℕ} {prices : Prices} {e : ℕ} → SoundBook book prices → e < 64 → missing_of (state book) e ≤ 10000000000000
-missing_le {book} {prices} {e} m below =
+pub missing_le : {book columns : List ℕ} {e : ℕ} → SoundBook book columns → e < 64 → missing_of (state book) e ≤ 10000000000000
+missing_le {book} {columns} {e} m below =
     ⊎_elim
     (λ t. let a = amount_le m below refl (eqb-true (state book in_use e) 1 t) in rw t (omega arith))
     (λ f. rw f (omega arith))
@@ -50,16 +52,17 @@ missing_le {book} {prices} {e} m below =
 
 -- the book after the exposures below e
 pub record On (step : State → ℕ → State) (prices : Prices) (start book : List ℕ) (e : ℕ) : Type 0 where
-  pub whole : SoundBook book prices
+  pub whole : SoundBook book prices.columns
+  pub fresh : FreshBaskets (state book) prices.since
   pub reached : state book ≡ on_exposures step e (state start)
 
 module _ {step : State → ℕ → State} {prices : Prices} {start : List ℕ} where
-  pub on_start : SoundBook start prices → On step prices start start 0
-  on_start m = record { whole = m; reached = sym (on_none step (state start)) }
+  pub on_start : SoundBook start prices.columns → FreshBaskets (state start) prices.since → On step prices start start 0
+  on_start m f = record { whole = m; fresh = f; reached = sym (on_none step (state start)) }
 
   module _ {book : List ℕ} {e : ℕ} (o : On step prices start book e) where
-    pub on_step : {after : List ℕ} {flag : Bool} → Stepped step prices book after e flag → On step prices start after (e + 1)
-    on_step t = record { whole = t.book; reached = t.stepped ∙ rw o.reached (sym (on_next step e (state start))) }
+    pub on_step : {after : List ℕ} {flag : Bool} → Stepped step prices.columns book after e flag → On step prices start after (e + 1)
+    on_step t = record { whole = t.book; fresh = fresh_same t.kept o.fresh; reached = t.stepped ∙ rw o.reached (sym (on_next step e (state start))) }
 
     pub on_end : e ≤ 64 → 64 ≤ e → state book ≡ on_exposures step 64 (state start)
     on_end l h = let q : e ≡ 64 = omega arith in rw q at o.reached
@@ -69,7 +72,7 @@ module _ {step : State → ℕ → State} {prices : Prices} {start : List ℕ} w
       pub on_before : missing_of (state start) e ≡ missing_of (state book) e
       on_before = rw o.reached (sym (missing_same e (pass_bonds step p.local (state start) e) (pass_later step p.local (state start) e e (le_refl e))))
 
-      module _ {after : List ℕ} {flag : Bool} (l : e < 64) (t : Stepped step prices book after e flag) where
+      module _ {after : List ℕ} {flag : Bool} (l : e < 64) (t : Stepped step prices.columns book after e flag) where
         pub on_flag : flag ≡ moved (state start) (on_exposures step 64 (state start)) e
         on_flag = t.told ∙ rw (t.stepped, o.reached) (sym (pass_moved step p.local (state start) 64 e l))
 

@@ -7,6 +7,7 @@ ghost use Rattle.laws.specs.Search.{count};
 ghost use Rattle.laws.specs.Sum.{sum};
 ghost use Rattle.book.specs.State.{state};
 ghost use Rattle.bonds.specs.Moves.{SoundBook};
+ghost use Rattle.eligibility.specs.Fresh.{FreshBaskets};
 ghost use Rattle.rules.specs.Marking.{on_exposures, moved, ineligible_back, excess_back, shortfall_in, missing_of, marked};
 ghost use Rattle.rules.specs.Sound.{sound};
 ghost use Rattle.totals.specs.Totals.{totals_of};
@@ -32,8 +33,8 @@ struct Searched {
 
 // First pass. Which exposures gave back?
 fn give_all_ineligible(book: &mut Book, prices: &Prices) -> [bool; 64]
-    requires { SoundBook book.old prices.now }
-    ensures { SoundBook book.new prices.now × (state book.new ≡ on_exposures ineligible_back 64 (state book.old)) × FlagsOf (moved (state book.old) (state book.new)) result }
+    requires { SoundBook book.old prices.now.columns × FreshBaskets (state book.old) prices.now.since }
+    ensures { SoundBook book.new prices.now.columns × FreshBaskets (state book.new) prices.now.since × (state book.new ≡ on_exposures ineligible_back 64 (state book.old)) × FlagsOf (moved (state book.old) (state book.new)) result }
 {
     let mut gave = [false; 64];
     for e in 0..64 {
@@ -45,8 +46,8 @@ fn give_all_ineligible(book: &mut Book, prices: &Prices) -> [bool; 64]
 // Second pass: each exposure is freed and no more; what is missing is searched for when all are freed. An exposure counts once, whether
 // it gave back in the first pass, the second or both.
 fn free_all(book: &mut Book, prices: &Prices, gave: &[bool; 64]) -> Freed
-    requires { SoundBook book.old prices.now }
-    ensures { SoundBook book.new prices.now × (state book.new ≡ on_exposures excess_back 64 (state book.old)) × (result.count ≡ count (flagged_or gave.now (moved (state book.old) (state book.new))) 64 0) × (result.missing ≡ filled (missing_of (state book.new)) 64 64) }
+    requires { SoundBook book.old prices.now.columns × FreshBaskets (state book.old) prices.now.since }
+    ensures { SoundBook book.new prices.now.columns × FreshBaskets (state book.new) prices.now.since × (state book.new ≡ on_exposures excess_back 64 (state book.old)) × (result.count ≡ count (flagged_or gave.now (moved (state book.old) (state book.new))) 64 0) × (result.missing ≡ filled (missing_of (state book.new)) 64 64) }
 {
     let mut count: u64 = 0;
     let mut missing = [0u64; 64];
@@ -60,7 +61,7 @@ fn free_all(book: &mut Book, prices: &Prices, gave: &[bool; 64]) -> Freed
 
 // Third pass.
 fn search_all(book: &mut Book, prices: &Prices, missing: &[u64; 64]) -> Searched
-    requires { SoundBook book.old prices.now × (missing.now ≡ filled (missing_of (state book.old)) 64 64) }
+    requires { SoundBook book.old prices.now.columns × FreshBaskets (state book.old) prices.now.since × (missing.now ≡ filled (missing_of (state book.old)) 64 64) }
     ensures { (state book.new ≡ on_exposures shortfall_in 64 (state book.old)) × (result.count ≡ count (moved (state book.old) (state book.new)) 64 0) × (result.missing ≡ sum (missing_of (state book.new)) 64) }
 {
     let mut count: u64 = 0;

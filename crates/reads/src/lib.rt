@@ -62,7 +62,7 @@ fn account(book: &[u8], participant: u64, security: u64) -> Result<[u64; 2], Ref
     ensures code { outcome_code result ≡ read_code book.now (account participant security) }
     ensures values { IfOk result (λ answer. answer ≡ 0 ∷ read_values (state book.now) (account participant security)) }
 {
-    let book = damage::sound_book(book)?;
+    let book = damage::sound_book(book, false)?;
     let p = index(participant, 32)?;
     let i = index(security, 64)?;
     check_used(book, Table::Modes, p)?;
@@ -75,7 +75,7 @@ fn position(book: &[u8], exposure: u64, security: u64) -> Result<[u64; 2], Refus
     ensures code { outcome_code result ≡ read_code book.now (position exposure security) }
     ensures values { IfOk result (λ answer. answer ≡ 0 ∷ read_values (state book.now) (position exposure security)) }
 {
-    let book = damage::sound_book(book)?;
+    let book = damage::sound_book(book, false)?;
     let e = index(exposure, 64)?;
     let i = index(security, 64)?;
     check_used(book, Table::InUse, e)?;
@@ -88,7 +88,7 @@ fn exposure(book: &[u8], e: u64) -> Result<[u64; 6], Refusal>
     ensures code { outcome_code result ≡ read_code book.now (exposure e) }
     ensures values { IfOk result (λ answer. answer ≡ 0 ∷ read_values (state book.now) (exposure e)) }
 {
-    let book = damage::sound_book(book)?;
+    let book = damage::sound_book(book, false)?;
     let i = index(e, 64)?;
     check_used(book, Table::InUse, i)?;
     let giver = book::get(book, Table::ExposureGivers, i);
@@ -104,7 +104,7 @@ fn basket(book: &[u8], b: u64) -> Result<[u64; 5], Refusal>
     ensures code { outcome_code result ≡ read_code book.now (basket b) }
     ensures values { IfOk result (λ answer. answer ≡ 0 ∷ read_values (state book.now) (basket b)) }
 {
-    let book = damage::sound_book(book)?;
+    let book = damage::sound_book(book, false)?;
     let i = index(b, 16)?;
     check_used(book, Table::Maps, i)?;
     let map = book::get(book, Table::Maps, i);
@@ -159,7 +159,7 @@ fn request(book: &[u8], number: u64) -> Result<[u64; 15], Refusal>
     ensures code { outcome_code result ≡ read_code book.now (request number) }
     ensures values { IfOk result (λ answer. answer ≡ 0 ∷ read_values (state book.now) (request number)) }
 {
-    let book = damage::sound_book(book)?;
+    let book = damage::sound_book(book, false)?;
     let Some(i) = row_of(book, number) else {
         return Err(Refusal::NotSetUp);
     };

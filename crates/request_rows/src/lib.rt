@@ -12,8 +12,7 @@ ghost use Rattle.request_rows.specs.Rows.{EntryIn, mark_of, with_parties, with_t
 
 use book::Book;
 use book::layout::Table;
-use record_kinds::Kind;
-use records::record::Record;
+use record_kinds::{Fields, Kind};
 
 // What a new row gets beside its number and the record's fields: a side, the partner's row, and the pair's partial mark.
 #[derive(Clone, Copy, Debug, PartialEq, Eq)]
@@ -24,41 +23,41 @@ pub struct Marks {
 }
 
 // The reference of a record: the last field of its kind.
-fn reference_in(request: &Record) -> u64
-    ensures { result ≡ reference_in (kind_number request.now.kind) request.now.fields }
+fn reference_in(kind: Kind, fields: &Fields) -> u64
+    ensures { result ≡ reference_in (kind_number kind) fields.now }
 {
-    match request.kind {
-        Kind::Fop => request.fields[7],
-        _ => request.fields[6],
+    match kind {
+        Kind::Fop => fields[7],
+        _ => fields[6],
     }
 }
 
 // Writes a row's parties with their basket or exposure.
 #[tactic(auto, unfolding(crate::specs::Rows::with_parties))]
-fn write_parties(book: &mut Book, request: &Record, i: usize)
-    requires { RequestIn request.now.fields × (i < 256) }
-    ensures { state book.new ≡ with_parties (state book.old) request.now.fields i }
+fn write_parties(book: &mut Book, fields: &Fields, i: usize)
+    requires { RequestIn fields.now × (i < 256) }
+    ensures { state book.new ≡ with_parties (state book.old) fields.now i }
 {
-    book::set(book, Table::Givers, i, request.fields[1]);
-    book::set(book, Table::Takers, i, request.fields[2]);
-    book::set(book, Table::BasketsOrExposures, i, request.fields[3]);
+    book::set(book, Table::Givers, i, fields[1]);
+    book::set(book, Table::Takers, i, fields[2]);
+    book::set(book, Table::BasketsOrExposures, i, fields[3]);
 }
 
 // Writes a row's amount, days and reference.
 #[tactic(auto, unfolding(crate::specs::Rows::with_terms))]
-fn write_terms(book: &mut Book, request: &Record, i: usize)
-    requires { EntryIn (kind_number request.now.kind) request.now.fields × (i < 256) }
-    ensures { state book.new ≡ with_terms (state book.old) (kind_number request.now.kind) request.now.fields i }
+fn write_terms(book: &mut Book, kind: Kind, fields: &Fields, i: usize)
+    requires { EntryIn (kind_number kind) fields.now × (i < 256) }
+    ensures { state book.new ≡ with_terms (state book.old) (kind_number kind) fields.now i }
 {
-    book::set(book, Table::Amounts, i, request.fields[4]);
-    book::set(book, Table::Settlements, i, request.fields[5]);
+    book::set(book, Table::Amounts, i, fields[4]);
+    book::set(book, Table::Settlements, i, fields[5]);
     book::set(
         book,
         Table::Closings,
         i,
-        request_search::closing_in(request),
+        request_search::closing_in(kind, fields),
     );
-    book::set(book, Table::References, i, reference_in(request));
+    book::set(book, Table::References, i, reference_in(kind, fields));
 }
 
 // The mark of a partner: one more than its row, 0 for none.
@@ -95,14 +94,14 @@ fn write_marks(book: &mut Book, i: usize, marks: Marks)
 
 // Writes the rest of a row whose number stands already.
 #[tactic(auto, unfolding(crate::specs::Rows::filled_row))]
-pub fn fill_row(book: &mut Book, request: &Record, i: usize, marks: Marks)
-    requires { EntryIn (kind_number request.now.kind) request.now.fields × (i < 256) × (marks.side ≤ 1) × (mark_of marks.partner ≤ 256) }
-    ensures { state book.new ≡ filled_row (state book.old) (kind_number request.now.kind) request.now.fields i marks.side (mark_of marks.partner) (cond marks.partial 1 0) }
+pub fn fill_row(book: &mut Book, kind: Kind, fields: &Fields, i: usize, marks: Marks)
+    requires { EntryIn (kind_number kind) fields.now × (i < 256) × (marks.side ≤ 1) × (mark_of marks.partner ≤ 256) }
+    ensures { state book.new ≡ filled_row (state book.old) (kind_number kind) fields.now i marks.side (mark_of marks.partner) (cond marks.partial 1 0) }
 {
-    book::set(book, Table::RequestKinds, i, u64::from(request.kind));
+    book::set(book, Table::RequestKinds, i, u64::from(kind));
     book::set(book, Table::Sides, i, marks.side);
-    write_parties(book, request, i);
-    write_terms(book, request, i);
+    write_parties(book, fields, i);
+    write_terms(book, kind, fields, i);
     write_marks(book, i, marks);
 }
 
@@ -117,10 +116,10 @@ pub fn take_row(book: &mut Book, number: u64) -> usize
 }
 
 // Do both parties allow partial settlement now?
-pub fn allow_partial(book: &Book, request: &Record) -> bool
-    requires { RequestIn request.now.fields }
-    ensures { result ≡ allow_partial (state book.now) (giver_in request.now.fields) (taker_in request.now.fields) }
+pub fn allow_partial(book: &Book, fields: &Fields) -> bool
+    requires { RequestIn fields.now }
+    ensures { result ≡ allow_partial (state book.now) (giver_in fields.now) (taker_in fields.now) }
 {
-    book::get(book, Table::Partials, request.fields[1] as usize) == 1
-        && book::get(book, Table::Partials, request.fields[2] as usize) == 1
+    book::get(book, Table::Partials, fields[1] as usize) == 1
+        && book::get(book, Table::Partials, fields[2] as usize) == 1
 }

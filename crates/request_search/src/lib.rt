@@ -19,8 +19,7 @@ ghost use Rattle.request_search.specs.Rows.{rows_free, same_terms, other_side, e
 use book::Book;
 use book::layout::Table;
 use exposure_search::ExposureKey;
-use record_kinds::Kind;
-use records::record::Record;
+use record_kinds::{Fields, Kind};
 
 // Is the taker automatic, or does it list the giver?
 pub fn accepts_giver(book: &Book, taker: usize, giver: u64) -> bool
@@ -35,44 +34,44 @@ pub fn accepts_giver(book: &Book, taker: usize, giver: u64) -> bool
 }
 
 // Is a taker request made for this one?
-pub fn does_taker_follow(book: &Book, request: &Record) -> bool
-    requires { RequestIn request.now.fields }
-    ensures { result ≡ taker_follows (state book.now) request.now.fields }
+pub fn does_taker_follow(book: &Book, fields: &Fields) -> bool
+    requires { RequestIn fields.now }
+    ensures { result ≡ taker_follows (state book.now) fields.now }
 {
-    request.fields[0] == 0 && accepts_giver(book, request.fields[2] as usize, request.fields[1])
+    fields[0] == 0 && accepts_giver(book, fields[2] as usize, fields[1])
 }
 
 // The closing day of a record; a return has none.
-pub fn closing_in(request: &Record) -> u64
-    ensures { result ≡ closing_in (kind_number request.now.kind) request.now.fields }
+pub fn closing_in(kind: Kind, fields: &Fields) -> u64
+    ensures { result ≡ closing_in (kind_number kind) fields.now }
 {
-    match request.kind {
-        Kind::Fop => request.fields[6],
+    match kind {
+        Kind::Fop => fields[6],
         _ => 0,
     }
 }
 
 // Has the row i the record's basket or exposure, amount and days? The amount comes first: it differs most.
-fn has_terms(book: &Book, request: &Record, i: usize) -> bool
+fn has_terms(book: &Book, kind: Kind, fields: &Fields, i: usize) -> bool
     requires { i < 256 }
-    ensures { result ≡ same_terms (state book.now) (kind_number request.now.kind) request.now.fields i }
+    ensures { result ≡ same_terms (state book.now) (kind_number kind) fields.now i }
 {
-    book::get(book, Table::Amounts, i) == request.fields[4]
-        && book::get(book, Table::Settlements, i) == request.fields[5]
-        && book::get(book, Table::BasketsOrExposures, i) == request.fields[3]
-        && book::get(book, Table::Closings, i) == closing_in(request)
+    book::get(book, Table::Amounts, i) == fields[4]
+        && book::get(book, Table::Settlements, i) == fields[5]
+        && book::get(book, Table::BasketsOrExposures, i) == fields[3]
+        && book::get(book, Table::Closings, i) == closing_in(kind, fields)
 }
 
 // Is the row i equal to the record in all fields but side and reference, and of the other side?
-fn is_other_side(book: &Book, request: &Record, i: usize) -> bool
-    requires { RequestIn request.now.fields × (i < 256) }
-    ensures { result ≡ other_side (state book.now) (kind_number request.now.kind) request.now.fields i }
+fn is_other_side(book: &Book, kind: Kind, fields: &Fields, i: usize) -> bool
+    requires { RequestIn fields.now × (i < 256) }
+    ensures { result ≡ other_side (state book.now) (kind_number kind) fields.now i }
 {
-    has_terms(book, request, i)
-        && book::get(book, Table::Givers, i) == request.fields[1]
-        && book::get(book, Table::Takers, i) == request.fields[2]
-        && book::get(book, Table::RequestKinds, i) == u64::from(request.kind)
-        && book::get(book, Table::Sides, i) == 1 - request.fields[0]
+    has_terms(book, kind, fields, i)
+        && book::get(book, Table::Givers, i) == fields[1]
+        && book::get(book, Table::Takers, i) == fields[2]
+        && book::get(book, Table::RequestKinds, i) == u64::from(kind)
+        && book::get(book, Table::Sides, i) == 1 - fields[0]
 }
 
 // Does the row i hold a live request that is not paired?
@@ -87,19 +86,19 @@ fn is_waiting(book: &Book, i: usize) -> bool
 }
 
 // May the record pair with the row i?
-fn is_equal(book: &Book, request: &Record, i: usize) -> bool
-    requires { RequestIn request.now.fields × (i < 256) }
-    ensures { result ≡ is_equal (state book.now) (kind_number request.now.kind) request.now.fields i }
+fn is_equal(book: &Book, kind: Kind, fields: &Fields, i: usize) -> bool
+    requires { RequestIn fields.now × (i < 256) }
+    ensures { result ≡ is_equal (state book.now) (kind_number kind) fields.now i }
 {
-    is_other_side(book, request, i) && is_waiting(book, i)
+    is_other_side(book, kind, fields, i) && is_waiting(book, i)
 }
 
 // The earlier of the best row so far and the row i, where the record may pair with that.
-fn earlier(book: &Book, request: &Record, best: Option<usize>, i: usize) -> Option<usize>
-    requires { RequestIn request.now.fields × MatchOption best ⊤ (λ b. b < 256) × (i < 256) }
-    ensures { result ≡ found 256 (earlier_of (state book.now) (kind_number request.now.kind) request.now.fields (unwrap_or best 256) i) }
+fn earlier(book: &Book, kind: Kind, fields: &Fields, best: Option<usize>, i: usize) -> Option<usize>
+    requires { RequestIn fields.now × MatchOption best ⊤ (λ b. b < 256) × (i < 256) }
+    ensures { result ≡ found 256 (earlier_of (state book.now) (kind_number kind) fields.now (unwrap_or best 256) i) }
 {
-    if !is_equal(book, request, i) {
+    if !is_equal(book, kind, fields, i) {
         return best;
     }
     match best {
@@ -109,13 +108,13 @@ fn earlier(book: &Book, request: &Record, best: Option<usize>, i: usize) -> Opti
 }
 
 // The row of the earliest request that the record may pair with: the one with the lowest number.
-pub fn earliest_equal(book: &Book, request: &Record) -> Option<usize>
-    requires { RequestIn request.now.fields }
-    ensures { result ≡ found 256 (earliest_equal (state book.now) (kind_number request.now.kind) request.now.fields) }
+pub fn earliest_equal(book: &Book, kind: Kind, fields: &Fields) -> Option<usize>
+    requires { RequestIn fields.now }
+    ensures { result ≡ found 256 (earliest_equal (state book.now) (kind_number kind) fields.now) }
 {
     let mut best = None;
     for i in 0..256 {
-        best = earlier(book, request, best, i);
+        best = earlier(book, kind, fields, best, i);
     }
     best
 }
@@ -152,14 +151,14 @@ pub fn free_exposure(book: &Book) -> Option<usize>
 }
 
 // The used exposure that a FOP belongs to: the one with its key.
-pub fn exposure_of(book: &Book, request: &Record) -> Option<usize>
-    ensures { result ≡ found 64 (exposure_of (state book.now) request.now.fields) }
+pub fn exposure_of(book: &Book, fields: &Fields) -> Option<usize>
+    ensures { result ≡ found 64 (exposure_of (state book.now) fields.now) }
 {
     let key = ExposureKey {
-        giver: request.fields[1],
-        taker: request.fields[2],
-        basket: request.fields[3],
-        closing: request.fields[6],
+        giver: fields[1],
+        taker: fields[2],
+        basket: fields[3],
+        closing: fields[6],
     };
     exposure_search::exposure_with(book, key)
 }

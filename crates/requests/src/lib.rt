@@ -30,10 +30,10 @@ pub fn check_fop(book: &Book, fop: &Record) -> Result<(), Refusal>
     if fop.fields[4] < book::get(book, Table::Tolerance, 0) {
         return Err(Refusal::OutOfRange);
     }
-    request_codes::check_fop_names(book, fop)?;
-    request_codes::check_taker(book, fop)?;
-    request_codes::check_rows(book, fop)?;
-    request_codes::check_exposure(book, fop)
+    request_codes::check_fop_names(book, &fop.fields)?;
+    request_codes::check_taker(book, &fop.fields)?;
+    request_codes::check_rows(book, &fop.fields)?;
+    request_codes::check_exposure(book, &fop.fields)
 }
 
 // 7: the code of a return.
@@ -42,13 +42,13 @@ pub fn check_return(book: &Book, back: &Record) -> Result<(), Refusal>
     requires { (back.now.kind ≡ Return) × (sound (state book.now) ≡ true) }
     ensures { outcome_code result ≡ lowest (return_rules (state book.now) back.now.fields) }
 {
-    request_codes::check_parties(book, back)?;
-    request_codes::check_settlement(book, back)?;
-    request_codes::check_taker(book, back)?;
-    if !request_codes::names_exposure(book, back) {
+    request_codes::check_parties(book, &back.fields)?;
+    request_codes::check_settlement(book, &back.fields)?;
+    request_codes::check_taker(book, &back.fields)?;
+    if !request_codes::names_exposure(book, &back.fields) {
         return Err(Refusal::NoneSuch);
     }
-    request_codes::check_rows(book, back)
+    request_codes::check_rows(book, &back.fields)
 }
 
 // Enters a request's rows, paired with the taker request made for it, or with the earliest equal one, or left to wait. The number of the
@@ -57,19 +57,19 @@ fn enter_rows(book: &mut Book, request: &Record) -> u64
     requires { EntryIn (kind_number request.now.kind) request.now.fields × Room (state book.old) (kind_number request.now.kind) request.now.fields }
     ensures { Entered (state book.old) (kind_number request.now.kind) request.now.fields result (state book.new) }
 {
-    if request_search::does_taker_follow(book, request) {
+    if request_search::does_taker_follow(book, &request.fields) {
         let number = book::get(book, Table::NextNumber, 0);
-        request_entry::enter_with_taker(book, request);
-        request_entry::join_exposure(book, request);
+        request_entry::enter_with_taker(book, request.kind, &request.fields);
+        request_entry::join_exposure(book, request.kind, &request.fields);
         return number + 1;
     }
-    let Some(j) = request_search::earliest_equal(book, request) else {
-        request_entry::enter_waiting(book, request);
+    let Some(j) = request_search::earliest_equal(book, request.kind, &request.fields) else {
+        request_entry::enter_waiting(book, request.kind, &request.fields);
         return 0;
     };
     let partner = book::get(book, Table::Numbers, j);
-    request_entry::enter_with_equal(book, request, j);
-    request_entry::join_exposure(book, request);
+    request_entry::enter_with_equal(book, request.kind, &request.fields, j);
+    request_entry::join_exposure(book, request.kind, &request.fields);
     partner
 }
 

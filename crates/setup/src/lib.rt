@@ -13,14 +13,15 @@ ghost use Rattle.rules.specs.SetUp.{opened, priced, enrolled, basket_made};
 use answers::Refusal;
 use book::Book;
 use book::layout::Table;
+use record_kinds::Fields;
 use records::record::Record;
 
 // 0: the code of an opening.
 #[tactic(auto, unfolding(rules::specs::Codes::opening_rules))]
-pub fn check_opening(legal: &Record) -> Result<(), Refusal>
-    ensures { outcome_code result ≡ lowest (opening_rules legal.now.fields) }
+pub fn check_opening(fields: &Fields) -> Result<(), Refusal>
+    ensures { outcome_code result ≡ lowest (opening_rules fields.now) }
 {
-    if !calendar::is_open(legal.fields[0]) {
+    if !calendar::is_open(fields[0]) {
         return Err(Refusal::BadDay);
     }
     Ok(())

@@ -12,7 +12,7 @@ returns-then-get-ne1 c =
 
 pub eligibility_of-x-requires : goal.eligibility_of-x-requires
 eligibility_of-x-requires c =
-    (c.requires.1, basket_below c.requires.0 c.requires.1 c.get.ensures c.if-get-ne1.false, c.requires.0.priced)
+    (c.requires.1, basket_below c.requires.0 c.requires.1 c.get.ensures c.if-get-ne1.false, c.requires.2)
 
 pub may_all_stay-requires : goal.may_all_stay-requires
 may_all_stay-requires c =

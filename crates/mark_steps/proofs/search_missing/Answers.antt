@@ -16,7 +16,7 @@ use Rattle.mark_steps.proofs.search_missing.Goals.{After-pledge}
 
 -- what was found has come in
 taken_in : (c : After-pledge)
-    → Stepped shortfall_in c.args.prices.now c.args.book.now c.pledge.new.book c.args.e true
+    → Stepped shortfall_in c.args.prices.now.columns c.args.book.now c.pledge.new.book c.args.e true
 taken_in c =
     search_step c.requires.0 c.requires.1 c.fits-book c.requires.2 c.if-missing-eq0.false c.pick_for-found.ensures c.pledge.array_long
     (some_pledged (state c.args.book.now) c.args.e c.pick_for-found.result.nominals (sym (pick_empty _ _ _ _ c.pick_for-found.ensures)) (ne_eqb c.pick_for-found.result.count 0 c.if-found-eq0.false) c.pledge.ensures)
@@ -28,7 +28,7 @@ returns-then-missing-eq0 c =
 pub pick_for-found-requires : goal.pick_for-found-requires
 pick_for-found-requires c =
     let m = c.requires.0 in
-    (good_pickable _ _ (good_of m c.fits-book) c.requires.1 (lacking_used (state c.args.book.now) c.args.e c.requires.2 c.if-missing-eq0.false), m.priced)
+    (good_pickable _ _ (good_of m c.fits-book) c.requires.1 (lacking_used (state c.args.book.now) c.args.e c.requires.2 c.if-missing-eq0.false), record { columns = m.securities; fresh = c.requires.3 })
 
 pub returns-then-found-eq0 : goal.returns-then-found-eq0
 returns-then-found-eq0 c = (

@@ -23,7 +23,7 @@ counts c =
 
 pub loop-e-init : goal.loop-e-init
 loop-e-init c =
-    (omega arith, on_start c.requires, sym (count_none _ 0), filled_first _ 64)
+    (omega arith, on_start c.requires.0 c.requires.1, sym (count_none _ 0), filled_first _ 64)
 
 pub overflow_add-count : goal.overflow_add-count
 overflow_add-count c =
@@ -43,4 +43,4 @@ pub returns : goal.returns
 returns c =
     let all : state c.loop-e.book ≡ after (state c.args.book.now) = on_end c.loop-e.invariant.1 c.loop-e.invariant.0 c.loop-e-test.false in
     let e : c.loop-e.e ≡ 64 = omega arith in
-    (c.loop-e.invariant.1.whole, all, rw all (rw e at c.loop-e.invariant.2), rw all (rw e at c.loop-e.invariant.3))
+    (c.loop-e.invariant.1.whole, c.loop-e.invariant.1.fresh, all, rw all (rw e at c.loop-e.invariant.2), rw all (rw e at c.loop-e.invariant.3))

@@ -11,10 +11,10 @@ use Rattle.marking.proofs.Passing.{on_start, on_step, on_end, on_flag}
 use Rattle.marking.proofs.give_all_ineligible.Goals as goal
 
 pub loop-e-init : goal.loop-e-init
-loop-e-init c = (omega arith, on_start c.requires, refl, λ j l. absurd (omega arith))
+loop-e-init c = (omega arith, on_start c.requires.0 c.requires.1, refl, λ j l. absurd (omega arith))
 
 pub give_ineligible-requires : goal.give_ineligible-requires
-give_ineligible-requires c = (c.loop-e.invariant.1.whole, omega arith)
+give_ineligible-requires c = (c.loop-e.invariant.1.whole, omega arith, c.loop-e.invariant.1.fresh)
 
 pub loop-e-preserved : goal.loop-e-preserved
 loop-e-preserved c =
@@ -26,4 +26,4 @@ pub returns : goal.returns
 returns c =
     let all : state c.loop-e.book ≡ on_exposures ineligible_back 64 (state c.args.book.now) = on_end c.loop-e.invariant.1 c.loop-e.invariant.0 c.loop-e-test.false in
     let e : c.loop-e.e ≡ 64 = omega arith in
-    (c.loop-e.invariant.1.whole, all, record { each = rw all (rw e at c.loop-e.invariant.3) })
+    (c.loop-e.invariant.1.whole, c.loop-e.invariant.1.fresh, all, record { each = rw all (rw e at c.loop-e.invariant.3) })

@@ -12,11 +12,11 @@ of-prices-requires c = sound_aged (state c.args.book.now) (sound_facts (state c.
 
 pub give_all_ineligible-gave-requires : goal.give_all_ineligible-gave-requires
 give_all_ineligible-gave-requires c =
-    record { long = (omega arith); sound_book = c.requires; priced = c.of-prices.ensures }
+    (record { long = (omega arith); sound_book = c.requires; securities = c.of-prices.ensures.columns }, c.of-prices.ensures.fresh)
 
 pub returns : goal.returns
 returns c =
     let first = c.give_all_ineligible-gave.ensures in
     let second = c.free_all-freed.ensures in
     let third = c.search_all-searched.ensures in
-    mark_whole (state c.args.book.now) first.1 first.2 second.1 third.0 second.2 third.1 third.2
+    mark_whole (state c.args.book.now) first.2 first.3 second.2 third.0 second.3 third.1 third.2

@@ -21,12 +21,12 @@ lacks-le c = rw c.search_missing-step.ensures.1 (missing_le c.search_missing-ste
 
 pub loop-e-init : goal.loop-e-init
 loop-e-init c =
-    (omega arith, on_start c.requires.0, sym (count_none _ 0), sum_none _, omega arith)
+    (omega arith, on_start c.requires.0 c.requires.1, sym (count_none _ 0), sum_none _, omega arith)
 
 pub search_missing-step-requires : goal.search_missing-step-requires
 search_missing-step-requires c =
     let below : c.loop-e.e < 64 = omega arith in
-    (c.loop-e.invariant.1.whole, below, rw c.requires.1 (filled_at (missing_of (state c.args.book.now)) 64 64 c.loop-e.e (le_refl 64) below) ∙ on_before c.loop-e.invariant.1 third_pass)
+    (c.loop-e.invariant.1.whole, below, rw c.requires.2 (filled_at (missing_of (state c.args.book.now)) 64 64 c.loop-e.e (le_refl 64) below) ∙ on_before c.loop-e.invariant.1 third_pass, c.loop-e.invariant.1.fresh)
 
 pub overflow_add-count : goal.overflow_add-count
 overflow_add-count c =

@@ -9,4 +9,4 @@ use Rattle.request_search.proofs.Earliest.{best_of}
 use Rattle.request_search.proofs.earliest_equal.Given as goal
 
 abbrev pub invariant-loop-i : goal.invariant-loop-i
-invariant-loop-i l = (l.i ≤ 256) × (l.best ≡ found 256 (best_of (state l.book) (kind_number l.request.kind) l.request.fields l.i))
+invariant-loop-i l = (l.i ≤ 256) × (l.best ≡ found 256 (best_of (state l.book) (kind_number l.kind) l.fields l.i))
