@@ -44,11 +44,11 @@ pub fn pick_for(book: &Book, prices: &Prices, e: usize, amount: u64) -> Outcome
 }
 
 // Frees an exposure's position down to an amount, and gives the bonds back.
-pub fn free_down(book: &mut Book, prices: &Prices, e: usize, amount: u64)
-    requires { Freeable (state book.old) e × (prices.now.columns ≡ columns_of (state book.old)) }
+pub fn free_down(book: &mut Book, columns: &[u64; 256], e: usize, amount: u64)
+    requires { Freeable (state book.old) e × (columns.now ≡ columns_of (state book.old)) }
     ensures { state book.new ≡ give_back (state book.old) e (free_for (state book.old) e amount).nominals }
 {
     let position = book::row_at(book, Table::Positions, 64 * e);
-    let freed = picking::free(&position, &prices.columns, amount);
+    let freed = picking::free(&position, columns, amount);
     give_back(book, e, &freed.nominals);
 }

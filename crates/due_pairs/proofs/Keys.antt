@@ -19,7 +19,6 @@ use Rattle.facts.proofs.Rows.{head_facts, used_fields}
 use Rattle.rules.specs.Requests.{is_used}
 use Rattle.rules.specs.Settlement.{is_due}
 use Rattle.due_pairs.specs.Due.{due_of, order_of, keys_of, Collected}
-use Rattle.due_pairs.specs.declared.DueKeys.{DueKeys}
 use Rattle.due_pairs.proofs.Returns.{due_used}
 
 -- an order is small enough for a key
@@ -39,24 +38,24 @@ pub due_small : (s : State) (kind i : ℕ) → Good s → i < 256 → due_of s k
 due_small s kind i g l h = order_small s i g l (due_used s i (and_right (eqb (s request_kinds i) kind) (is_due s i) h))
 
 -- one row more, in the code's i + 1
-module _ {s : State} {kind i : ℕ} {due : DueKeys} (c : Collected s kind i due) {d : Bool} (dq : d ≡ due_of s kind i) where
-  pub not_noted : d ≡ false → Collected s kind (i + 1) due
+module _ {s : State} {kind i : ℕ} {keys : List ℕ} {n : ℕ} (c : Collected s kind i keys n) {d : Bool} (dq : d ≡ due_of s kind i) where
+  pub not_noted : d ≡ false → Collected s kind (i + 1) keys n
   unfolding keys_of
   not_noted h =
       let none : due_of s kind i ≡ false = sym dq ∙ h in
       record { long = c.long; few = omega (arith, c.few); all = rw (add-one, none) c.all }
 
-  pub noted : i < 256 → d ≡ true → {order : ℕ} → order ≡ order_of s i → Collected s kind (i + 1) (record { keys = set due.keys due.count (order * 256 + i); count = due.count + 1 })
+  pub noted : i < 256 → d ≡ true → {order : ℕ} → order ≡ order_of s i → Collected s kind (i + 1) (set keys n (order * 256 + i)) (n + 1)
   unfolding keys_of
   noted l h oq =
       let is : due_of s kind i ≡ true = sym dq ∙ h in
-      let inside : due.count < length due.keys = omega (arith, c.few, c.long) in
+      let inside : n < length keys = omega (arith, c.few, c.long) in
       record {
         long = simp length-set c.long;
         few = omega (arith, c.few);
-        all = rw (add-one due.count, add-one i, is, take-suc-set due.keys due.count _ inside, c.all, oq);
+        all = rw (add-one n, add-one i, is, take-suc-set keys n _ inside, c.all, oq);
       }
 
-pub none_noted : (s : State) (kind : ℕ) (keys : List ℕ) → length keys ≡ 256 → Collected s kind 0 (record { keys = keys; count = 0 })
+pub none_noted : (s : State) (kind : ℕ) (keys : List ℕ) → length keys ≡ 256 → Collected s kind 0 keys 0
 unfolding keys_of
 none_noted s kind keys l = record { long = l; few = omega arith; all = refl }

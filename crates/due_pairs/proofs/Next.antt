@@ -18,7 +18,6 @@ use Rattle.laws.proofs.Lists.{In, Sorted}
 use Rattle.book.specs.State.{State}
 use Rattle.facts.specs.Good.{Good}
 use Rattle.due_pairs.specs.Due.{due_of, order_of, key_of, keys_of, Collected, least_from}
-use Rattle.due_pairs.specs.declared.DueKeys.{DueKeys}
 use Rattle.due_pairs.proofs.Keys.{due_small}
 
 -- the lesser of a key that may be there and another
@@ -117,11 +116,11 @@ ahead_next {s} {kind} {last} {i} {rows} a = record {
   sorted = a.sorted.1;
 }
 
-module _ {s : State} {kind : ℕ} (last : ℕ) (g : Good s) {due : DueKeys} (c : Collected s kind 256 due) where
-  least : least_from ((last + 1) * 256) (take due.count due.keys) ≡ least_of (due_of s kind) (order_of s) ((last + 1) * 256) 256
+module _ {s : State} {kind : ℕ} (last : ℕ) (g : Good s) {keys : List ℕ} {n : ℕ} (c : Collected s kind 256 keys n) where
+  least : least_from ((last + 1) * 256) (take n keys) ≡ least_of (due_of s kind) (order_of s) ((last + 1) * 256) 256
   least = rw c.all
 
-  pub none_left : Ahead s kind last [] → {k : ℕ} → Some k ≡ least_from ((last + 1) * 256) (take due.count due.keys) → ⊥
+  pub none_left : Ahead s kind last [] → {k : ℕ} → Some k ≡ least_from ((last + 1) * 256) (take n keys) → ⊥
   none_left a {k} q = least_holds (due_of s kind) (order_of s) ((last + 1) * 256) (λ x. ⊥) 256 (λ i l d h. a.all i l d (omega arith)) k (sym (q ∙ least))
 
   module _ {i : ℕ} {rows : List ℕ} (a : Ahead s kind last (i ∷ rows)) where
@@ -134,10 +133,10 @@ module _ {s : State} {kind : ℕ} (last : ℕ) (g : Good s) {due : DueKeys} (c :
     lowest_key : (k : ℕ) × (least_of (due_of s kind) (order_of s) ((last + 1) * 256) 256 ≡ Some k) × (k ≤ key_of (order_of s i) i)
     lowest_key = least_le (due_of s kind) (order_of s) ((last + 1) * 256) 256 i own.0 own.1 (omega (arith, own.2))
 
-    pub some_left : None ≡ least_from ((last + 1) * 256) (take due.count due.keys) → ⊥
+    pub some_left : None ≡ least_from ((last + 1) * 256) (take n keys) → ⊥
     some_left q = let e : None ≡ Some lowest_key.0 = q ∙ least ∙ lowest_key.1 in cc
 
-    module _ {k : ℕ} (q : Some k ≡ least_from ((last + 1) * 256) (take due.count due.keys)) where
+    module _ {k : ℕ} (q : Some k ≡ least_from ((last + 1) * 256) (take n keys)) where
       first_key : k ≡ key_of (order_of s i) i
       first_key =
           let t = due_of s kind in

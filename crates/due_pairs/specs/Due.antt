@@ -5,7 +5,6 @@ use Rattle.std.specs.List.{filter, reduce}
 use Rattle.book.specs.Layout.{numbers, request_kinds, settlements}
 use Rattle.book.specs.State.{State}
 use Rattle.rules.specs.Settlement.{is_due}
-use Rattle.due_pairs.specs.declared.DueKeys.{DueKeys}
 
 -- a row of a kind that is due
 abbrev pub due_of : State → ℕ → ℕ → Bool
@@ -24,11 +23,11 @@ unfoldable pub keys_of : (ℕ → Bool) → (ℕ → ℕ) → ℕ → List ℕ
 keys_of t order zero = []
 keys_of t order (suc i) = cond (t i) (keys_of t order i ++ (key_of (order i) i ∷ [])) (keys_of t order i)
 
--- the keys of the rows of a kind below i that are due
-pub record Collected (s : State) (kind i : ℕ) (due : DueKeys) : Type 0 where
-  pub long : length due.keys ≡ 256
-  pub few : due.count ≤ i
-  pub all : take due.count due.keys ≡ keys_of (due_of s kind) (order_of s) i
+-- the first n numbers of a list are the keys of the rows of a kind below i that are due
+pub record Collected (s : State) (kind i : ℕ) (keys : List ℕ) (n : ℕ) : Type 0 where
+  pub long : length keys ≡ 256
+  pub few : n ≤ i
+  pub all : take n keys ≡ keys_of (due_of s kind) (order_of s) i
 
 -- the least of some keys from a bound on
 abbrev pub least_from : ℕ → List ℕ → Option ℕ

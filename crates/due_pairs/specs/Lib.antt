@@ -1,2 +1,1 @@
 pub mod Due
-pub mod Numbered

@@ -6,25 +6,9 @@ ghost use Rattle.book.specs.State.{state};
 ghost use Rattle.facts.specs.Good.{Good};
 ghost use Rattle.rules.specs.Settlement.{is_due};
 ghost use Rattle.due_pairs.specs.Due.{due_of, order_of, Collected, least_from};
-ghost use Rattle.due_pairs.specs.Numbered.{pair_number};
 
 use book::Book;
 use book::layout::Table;
-
-// What the requests of a pair are, by the number in their rows.
-#[derive(Clone, Copy, Debug, PartialEq, Eq)]
-pub enum PairKind {
-    Fop = 6,
-    Return = 7,
-}
-
-impl From<PairKind> for u64 {
-    ghost from_gives = { λ kind number. number ≡ pair_number kind };
-
-    fn from(kind: PairKind) -> u64 {
-        kind as u64
-    }
-}
 
 // A row's place in the order: by settlement date, then by number.
 fn order_of(book: &Book, i: usize) -> u64
@@ -61,11 +45,18 @@ fn is_due_pair(book: &Book, i: usize) -> bool
 }
 
 // Is the row the later request of a live pair of a kind that is due? What few rows pass is asked first.
-fn is_due(book: &Book, kind: PairKind, i: usize) -> bool
+fn is_due(book: &Book, kind: u64, i: usize) -> bool
     requires { Good (state book.now) × (i < 256) }
-    ensures { result ≡ due_of (state book.now) (pair_number kind) i }
+    ensures { result ≡ due_of (state book.now) kind i }
 {
-    book::get(book, Table::RequestKinds, i) == u64::from(kind) && is_due_pair(book, i)
+    book::get(book, Table::RequestKinds, i) == kind && is_due_pair(book, i)
+}
+
+// The least of some keys from a bound on.
+pub fn least_from(keys: &[u64], bound: u64) -> Option<u64>
+    ensures { result ≡ least_from bound keys.now }
+{
+    keys.iter().copied().filter(|key| bound <= *key).min()
 }
 
 // The rows of a kind that are due, each by its key: its place in the order times 256, and the row.
@@ -73,13 +64,14 @@ fn is_due(book: &Book, kind: PairKind, i: usize) -> bool
 pub struct DueKeys {
     keys: [u64; 256],
     count: usize,
+    ghost few: { count ≤ 256 },
 }
 
 impl DueKeys {
     // Puts the key of a row that is due behind those found so far.
-    fn note(&mut self, book: &Book, kind: PairKind, i: usize)
-        requires { Good (state book.now) × (i < 256) × Collected (state book.now) (pair_number kind) i self.old }
-        ensures { Collected (state book.now) (pair_number kind) (i + 1) self.new }
+    fn note(&mut self, book: &Book, kind: u64, i: usize)
+        requires { Good (state book.now) × (i < 256) × Collected (state book.now) kind i self.old.keys self.old.count }
+        ensures { Collected (state book.now) kind (i + 1) self.new.keys self.new.count }
     {
         if is_due(book, kind, i) {
             self.keys[self.count] = order_of(book, i) * 256 + i as u64;
@@ -88,9 +80,9 @@ impl DueKeys {
     }
 
     // The keys of the rows of a kind that are due.
-    pub fn of(book: &Book, kind: PairKind) -> DueKeys
+    pub fn of(book: &Book, kind: u64) -> DueKeys
         requires { Good (state book.now) }
-        ensures { Collected (state book.now) (pair_number kind) 256 result }
+        ensures { Collected (state book.now) kind 256 result.keys result.count }
     {
         let mut due = DueKeys {
             keys: [0; 256],
@@ -104,13 +96,8 @@ impl DueKeys {
 
     // The least key from a bound on.
     pub fn next_from(&self, bound: u64) -> Option<u64>
-        requires { self.now.count ≤ 256 }
         ensures { result ≡ least_from bound (take self.now.count self.now.keys) }
     {
-        self.keys[..self.count]
-            .iter()
-            .copied()
-            .filter(|key| bound <= *key)
-            .min()
+        least_from(&self.keys[..self.count], bound)
     }
 }

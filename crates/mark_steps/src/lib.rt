@@ -98,9 +98,9 @@ pub fn give_ineligible(book: &mut Book, prices: &Prices, e: usize) -> bool
 }
 
 // Second pass: frees the position down to the exposure's amount. An exposure that is not used lacks nothing.
-pub fn free_excess(book: &mut Book, prices: &Prices, e: usize) -> Passed
-    requires { SoundBook book.old prices.now.columns × (e < 64) }
-    ensures { Stepped excess_back prices.now.columns book.old book.new e result.moved × (result.missing ≡ missing_of (state book.new) e) }
+pub fn free_excess(book: &mut Book, columns: &[u64; 256], e: usize) -> Passed
+    requires { SoundBook book.old columns.now × (e < 64) }
+    ensures { Stepped excess_back columns.now book.old book.new e result.moved × (result.missing ≡ missing_of (state book.new) e) }
 {
     if book::get(book, Table::InUse, e) != 1 {
         return Passed {
@@ -110,7 +110,7 @@ pub fn free_excess(book: &mut Book, prices: &Prices, e: usize) -> Passed
     }
     let position = book::row_at(book, Table::Positions, 64 * e);
     let amount = book::get(book, Table::ExposureAmounts, e);
-    let freed = picking::free(&position, &prices.columns, amount);
+    let freed = picking::free(&position, columns, amount);
     let moved = give_any_back(book, e, &freed.nominals, freed.count);
     Passed {
         moved,

@@ -52,7 +52,7 @@ fn free_all(book: &mut Book, prices: &Prices, gave: &[bool; 64]) -> Freed
     let mut count: u64 = 0;
     let mut missing = [0u64; 64];
     for e in 0..64 {
-        let step = mark_steps::free_excess(book, prices, e);
+        let step = mark_steps::free_excess(book, &prices.columns, e);
         count += u64::from(gave[e] || step.moved);
         missing[e] = step.missing;
     }

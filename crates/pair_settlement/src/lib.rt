@@ -39,8 +39,8 @@ fn note_settled(book: &mut Book, i: usize, x: u64, e: usize, exposure: u64)
 }
 
 // Settles a return: the lesser of its rest and the exposure, which is lowered and freed. The cents settled.
-pub fn settle_return(book: &mut Book, prices: &Prices, i: usize) -> u64
-    requires { Good (state book.old) × PairOf (state book.old) 7 i × (prices.now.columns ≡ columns_of (state book.old)) }
+pub fn settle_return(book: &mut Book, columns: &[u64; 256], i: usize) -> u64
+    requires { Good (state book.old) × PairOf (state book.old) 7 i × (columns.now ≡ columns_of (state book.old)) }
     ensures { (result ≡ return_amount (state book.old) i) × (state book.new ≡ left return_way (state book.old) i) }
 {
     let e = book::get(book, Table::BasketsOrExposures, i) as usize;
@@ -50,7 +50,7 @@ pub fn settle_return(book: &mut Book, prices: &Prices, i: usize) -> u64
         return 0;
     }
     note_settled(book, i, x, e, exposure - x);
-    bonds::free_down(book, prices, e, exposure - x);
+    bonds::free_down(book, columns, e, exposure - x);
     x
 }
 

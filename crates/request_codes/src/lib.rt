@@ -112,7 +112,7 @@ fn does_pair_now(book: &Book, kind: Kind, fields: &Fields) -> bool
     ensures { result ≡ pairs_now (state book.now) (kind_number kind) fields.now }
 {
     request_search::does_taker_follow(book, fields)
-        || request_search::earliest_equal(book, kind, fields).is_some()
+        || request_search::earliest_equal(book, u64::from(kind), fields).is_some()
 }
 
 // Is an exposure with the key of a FOP that pairs there, or a row for it? A free row, most often the case, is looked for first.

@@ -51,12 +51,8 @@ fn write_terms(book: &mut Book, kind: Kind, fields: &Fields, i: usize)
 {
     book::set(book, Table::Amounts, i, fields[4]);
     book::set(book, Table::Settlements, i, fields[5]);
-    book::set(
-        book,
-        Table::Closings,
-        i,
-        request_search::closing_in(kind, fields),
-    );
+    let closing = request_search::closing_in(u64::from(kind), fields);
+    book::set(book, Table::Closings, i, closing);
     book::set(book, Table::References, i, reference_in(kind, fields));
 }
 

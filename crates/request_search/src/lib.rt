@@ -9,7 +9,6 @@ ghost use Rattle.laws.specs.Found.{found};
 ghost use Rattle.book.specs.Layout.{rows_of};
 ghost use Rattle.book.specs.State.{state};
 ghost use Rattle.book.specs.Tables.{number};
-ghost use Rattle.record_kinds.specs.Numbered.{kind_number};
 ghost use Rattle.rules.specs.Requests.{is_live, is_paired, is_owner, accepts_giver, free_exposure, free_row};
 ghost use Rattle.rules.specs.Requesting.{taker_follows, is_equal, earliest_equal, exposure_of, is_own_request, own_request};
 ghost use Rattle.rules.specs.Fields.{closing_in};
@@ -41,20 +40,21 @@ pub fn does_taker_follow(book: &Book, fields: &Fields) -> bool
     fields[0] == 0 && accepts_giver(book, fields[2] as usize, fields[1])
 }
 
-// The closing day of a record; a return has none.
-pub fn closing_in(kind: Kind, fields: &Fields) -> u64
-    ensures { result ≡ closing_in (kind_number kind) fields.now }
+// The closing day of a record; a return has none. A kind is looked for by its number here and below, as the rows have it.
+pub fn closing_in(kind: u64, fields: &Fields) -> u64
+    ensures { result ≡ closing_in kind fields.now }
 {
-    match kind {
-        Kind::Fop => fields[6],
-        _ => 0,
+    if kind == Kind::Fop as u64 {
+        fields[6]
+    } else {
+        0
     }
 }
 
 // Has the row i the record's basket or exposure, amount and days? The amount comes first: it differs most.
-fn has_terms(book: &Book, kind: Kind, fields: &Fields, i: usize) -> bool
+fn has_terms(book: &Book, kind: u64, fields: &Fields, i: usize) -> bool
     requires { i < 256 }
-    ensures { result ≡ same_terms (state book.now) (kind_number kind) fields.now i }
+    ensures { result ≡ same_terms (state book.now) kind fields.now i }
 {
     book::get(book, Table::Amounts, i) == fields[4]
         && book::get(book, Table::Settlements, i) == fields[5]
@@ -63,14 +63,14 @@ fn has_terms(book: &Book, kind: Kind, fields: &Fields, i: usize) -> bool
 }
 
 // Is the row i equal to the record in all fields but side and reference, and of the other side?
-fn is_other_side(book: &Book, kind: Kind, fields: &Fields, i: usize) -> bool
+fn is_other_side(book: &Book, kind: u64, fields: &Fields, i: usize) -> bool
     requires { RequestIn fields.now × (i < 256) }
-    ensures { result ≡ other_side (state book.now) (kind_number kind) fields.now i }
+    ensures { result ≡ other_side (state book.now) kind fields.now i }
 {
     has_terms(book, kind, fields, i)
         && book::get(book, Table::Givers, i) == fields[1]
         && book::get(book, Table::Takers, i) == fields[2]
-        && book::get(book, Table::RequestKinds, i) == u64::from(kind)
+        && book::get(book, Table::RequestKinds, i) == kind
         && book::get(book, Table::Sides, i) == 1 - fields[0]
 }
 
@@ -86,17 +86,17 @@ fn is_waiting(book: &Book, i: usize) -> bool
 }
 
 // May the record pair with the row i?
-fn is_equal(book: &Book, kind: Kind, fields: &Fields, i: usize) -> bool
+fn is_equal(book: &Book, kind: u64, fields: &Fields, i: usize) -> bool
     requires { RequestIn fields.now × (i < 256) }
-    ensures { result ≡ is_equal (state book.now) (kind_number kind) fields.now i }
+    ensures { result ≡ is_equal (state book.now) kind fields.now i }
 {
     is_other_side(book, kind, fields, i) && is_waiting(book, i)
 }
 
 // The earlier of the best row so far and the row i, where the record may pair with that.
-fn earlier(book: &Book, kind: Kind, fields: &Fields, best: Option<usize>, i: usize) -> Option<usize>
+fn earlier(book: &Book, kind: u64, fields: &Fields, best: Option<usize>, i: usize) -> Option<usize>
     requires { RequestIn fields.now × MatchOption best ⊤ (λ b. b < 256) × (i < 256) }
-    ensures { result ≡ found 256 (earlier_of (state book.now) (kind_number kind) fields.now (unwrap_or best 256) i) }
+    ensures { result ≡ found 256 (earlier_of (state book.now) kind fields.now (unwrap_or best 256) i) }
 {
     if !is_equal(book, kind, fields, i) {
         return best;
@@ -108,9 +108,9 @@ fn earlier(book: &Book, kind: Kind, fields: &Fields, best: Option<usize>, i: usi
 }
 
 // The row of the earliest request that the record may pair with: the one with the lowest number.
-pub fn earliest_equal(book: &Book, kind: Kind, fields: &Fields) -> Option<usize>
+pub fn earliest_equal(book: &Book, kind: u64, fields: &Fields) -> Option<usize>
     requires { RequestIn fields.now }
-    ensures { result ≡ found 256 (earliest_equal (state book.now) (kind_number kind) fields.now) }
+    ensures { result ≡ found 256 (earliest_equal (state book.now) kind fields.now) }
 {
     let mut best = None;
     for i in 0..256 {

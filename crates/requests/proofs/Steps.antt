@@ -58,7 +58,10 @@ module _ (s : State) (k : ℕ) (r : List ℕ) {b : Bool} (bq : b ≡ taker_follo
       pub entered_with_taker : {n : ℕ} {u : State} → n ≡ s next_number 0 → u ≡ with_exposure t k r → Entered s k r (n + 1) u
       entered_with_taker nq uq = record { partner_is = rw (nq, sym bq ∙ h); state_is = uq ∙ state_entered s t k r taker_key taker_free taker_pairs taker_rows }
 
-  module _ (alone : b ≡ false) {o : Option ℕ} (oq : o ≡ found 256 (earliest_equal s k r)) where
+  module _ (alone : b ≡ false) {x : ℕ} (xq : x ≡ k) {o : Option ℕ} (searched : o ≡ found 256 (earliest_equal s x r)) where
+    oq : o ≡ found 256 (earliest_equal s k r)
+    oq = rw xq at searched
+
     module _ {j : ℕ} (is : o ≡ Some j) {t : State} (tq : t ≡ with_equal s k r j) where
       which : (j ≡ earliest_equal s k r) × (earliest_equal s k r < 256)
       which = found_some 256 (earliest_equal s k r) oq is

@@ -63,7 +63,8 @@ fn enter_rows(book: &mut Book, request: &Record) -> u64
         request_entry::join_exposure(book, request.kind, &request.fields);
         return number + 1;
     }
-    let Some(j) = request_search::earliest_equal(book, request.kind, &request.fields) else {
+    let kind = u64::from(request.kind);
+    let Some(j) = request_search::earliest_equal(book, kind, &request.fields) else {
         request_entry::enter_waiting(book, request.kind, &request.fields);
         return 0;
     };

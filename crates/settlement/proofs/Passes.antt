@@ -23,7 +23,6 @@ use Rattle.eligibility.specs.Fresh.{SamePrices}
 use Rattle.eligibility.proofs.Fresh.{same_start, same_prices, same_then}
 use Rattle.std.specs.Prelude.{Some, None}
 use Rattle.due_pairs.specs.Due.{Collected, least_from}
-use Rattle.due_pairs.specs.declared.DueKeys.{DueKeys}
 use Rattle.due_pairs.proofs.Keys.{number_small}
 use Rattle.due_pairs.proofs.Next.{Ahead, ahead_next, none_left, some_left, next_row, next_order, next_fits, next_later}
 use Rattle.settlement_laws.specs.Ways.{PairOf, fop_settled, Way, fop_way, way_of, settle_by, left}
@@ -143,12 +142,12 @@ module _ {kind : ℕ} {s₀ : State} {t₀ : Totals} {n last : ℕ} {s : State} 
   passed l w = record { reached = w.leads; good = w.good; prices = w.prices; within = within_all l w.within }
 
   -- the least of the keys collected when the pass began is that of the first row left
-  module _ (g₀ : Good s₀) {due : DueKeys} (c : Collected s₀ kind 256 due) where
-    pub underway_done : None ≡ least_from ((last + 1) * 256) (take due.count due.keys) → (rows : List ℕ) → Underway kind s₀ t₀ n last s t rows → Passed kind s₀ t₀ s t
+  module _ (g₀ : Good s₀) {keys : List ℕ} {count : ℕ} (c : Collected s₀ kind 256 keys count) where
+    pub underway_done : None ≡ least_from ((last + 1) * 256) (take count keys) → (rows : List ℕ) → Underway kind s₀ t₀ n last s t rows → Passed kind s₀ t₀ s t
     underway_done q [] w = passed (omega (arith, w.few)) w
     underway_done q (i ∷ rows) w = absurd (some_left last g₀ c w.ahead q)
 
-    module _ {key : ℕ} (q : Some key ≡ least_from ((last + 1) * 256) (take due.count due.keys)) where
+    module _ {key : ℕ} (q : Some key ≡ least_from ((last + 1) * 256) (take count keys)) where
       pub next_pair : (rows : List ℕ) → Underway kind s₀ t₀ n last s t rows → PairOf s kind (key % 256)
       next_pair [] w = absurd (none_left last g₀ c w.ahead q)
       next_pair (i ∷ rows) w = rw (next_row last g₀ c w.ahead q) (due_pair (w.lined.due i (inl refl)))

@@ -4,7 +4,7 @@
 ghost use Rattle.std.specs.Prelude.{◌≡◌, true};
 ghost use Rattle.eligibility.specs.Fresh.{PricesOf};
 ghost use Rattle.book.specs.State.{state};
-ghost use Rattle.due_pairs.specs.Numbered.{pair_number};
+ghost use Rattle.settlement.specs.Numbered.{pair_number};
 ghost use Rattle.facts.specs.Good.{Good};
 ghost use Rattle.rules.specs.Settlement.{settlement};
 ghost use Rattle.rules.specs.Sound.{sound};
@@ -13,9 +13,24 @@ ghost use Rattle.totals.specs.Totals.{totals_of};
 ghost use Rattle.settlement.specs.Passes.{begun, Alike, Room, Within, Passed};
 
 use book::Book;
-use due_pairs::{DueKeys, PairKind};
+use due_pairs::DueKeys;
 use eligibility::Prices;
 use totals::Totals;
+
+// What the requests of a pair are, by the number in their rows.
+#[derive(Clone, Copy, Debug, PartialEq, Eq)]
+enum PairKind {
+    Fop = 6,
+    Return = 7,
+}
+
+impl From<PairKind> for u64 {
+    ghost from_gives = { λ kind number. number ≡ pair_number kind };
+
+    fn from(kind: PairKind) -> u64 {
+        kind as u64
+    }
+}
 
 // Settles one pair, and counts it where something settled.
 fn settle_pair(book: &mut Book, prices: &Prices, kind: PairKind, i: usize, t: Totals) -> Totals
@@ -24,7 +39,7 @@ fn settle_pair(book: &mut Book, prices: &Prices, kind: PairKind, i: usize, t: To
 {
     match kind {
         PairKind::Return => {
-            let returned = pair_settlement::settle_return(book, prices, i);
+            let returned = pair_settlement::settle_return(book, &prices.columns, i);
             if returned == 0 {
                 return t;
             }
@@ -53,7 +68,7 @@ fn settle_pairs(book: &mut Book, prices: &Prices, kind: PairKind, start: Totals)
     requires { Good (state book.old) × PricesOf (state book.old) prices.now × Room 256 start }
     ensures { Passed (pair_number kind) (state book.old) start (state book.new) result }
 {
-    let due = DueKeys::of(book, kind);
+    let due = DueKeys::of(book, u64::from(kind));
     let mut total = start;
     let mut last: u64 = 0;
     while let Some(key) = due.next_from((last + 1) * 256) {

@@ -4,9 +4,8 @@ use mathlib.Core.Path.{◌≡◌}
 use Prim.Native.Nat.{◌≤◌}
 use Rattle.laws.specs.Found.{found}
 use Rattle.book.specs.State.{state}
-use Rattle.record_kinds.specs.Numbered.{kind_number}
 use Rattle.request_search.proofs.Earliest.{best_of}
 use Rattle.request_search.proofs.earliest_equal.Given as goal
 
 abbrev pub invariant-loop-i : goal.invariant-loop-i
-invariant-loop-i l = (l.i ≤ 256) × (l.best ≡ found 256 (best_of (state l.book) (kind_number l.kind) l.fields l.i))
+invariant-loop-i l = (l.i ≤ 256) × (l.best ≡ found 256 (best_of (state l.book) l.kind l.fields l.i))

@@ -14,7 +14,7 @@ returns-in_default c = search entered_waiting
 
 pub join_exposure-requires-2 : goal.join_exposure-requires-2
 join_exposure-requires-2 c =
-    (c.requires.0, equal_room _ _ _ c.does_taker_follow.ensures c.if-does_taker_follow.false c.earliest_equal.ensures c.in-Some.is c.enter_with_equal.ensures c.requires.1)
+    (c.requires.0, equal_room _ _ _ c.does_taker_follow.ensures c.if-does_taker_follow.false c.from-kind.ensures c.earliest_equal.ensures c.in-Some.is c.enter_with_equal.ensures c.requires.1)
 
 pub returns : goal.returns
 returns c = search entered_with_equal

@@ -3,7 +3,7 @@
 use mathlib.Core.List.{List}
 use Prim.Native.Nat.{ℕ, ◌-◌, ◌<◌}
 use Rattle.book.specs.State.{state}
-use Rattle.due_pairs.specs.Numbered.{pair_number}
+use Rattle.settlement.specs.Numbered.{pair_number}
 use Rattle.settlement.proofs.Passes.{Underway}
 use Rattle.settlement.proofs.settle_pairs.Given as goal
 

@@ -4,14 +4,13 @@ use mathlib.Core.Path.{sym, ◌∙◌}
 use native.Mathlib.Omega.{arith}
 use Prim.Native.Nat.{◌<◌}
 use Rattle.book.specs.State.{state}
-use Rattle.due_pairs.specs.Numbered.{pair_number}
 use Rattle.due_pairs.proofs.Keys.{due_small, not_noted, noted}
 use Rattle.due_pairs.proofs.DueKeys.note.Goals as goal
 use Rattle.due_pairs.proofs.DueKeys.note.Goals.{After-order_of}
 
 small : (c : After-order_of) → c.order_of.result < 72057594037927935
 small c =
-    rw c.order_of.ensures (due_small (state c.args.book.now) (pair_number c.args.kind) c.args.i c.requires.0 c.requires.1 (sym c.is_due.ensures ∙ c.if-is_due.true))
+    rw c.order_of.ensures (due_small (state c.args.book.now) c.args.kind c.args.i c.requires.0 c.requires.1 (sym c.is_due.ensures ∙ c.if-is_due.true))
 
 pub overflow_mul-self : goal.overflow_mul-self
 overflow_mul-self c = omega (arith, small c)

@@ -3,8 +3,7 @@
 use Prim.Native.Nat.{◌≤◌}
 use Rattle.book.specs.State.{state}
 use Rattle.due_pairs.specs.Due.{Collected}
-use Rattle.due_pairs.specs.Numbered.{pair_number}
 use Rattle.due_pairs.proofs.DueKeys.of.Given as goal
 
 abbrev pub invariant-loop-i : goal.invariant-loop-i
-invariant-loop-i l = (l.i ≤ 256) × Collected (state l.book) (pair_number l.kind) l.i l.due
+invariant-loop-i l = (l.i ≤ 256) × Collected (state l.book) l.kind l.i l.due.keys l.due.count

@@ -2,8 +2,8 @@
 -- Assumes nothing.
 use Rattle.std.specs.Prelude.{ℕ}
 use Rattle.rules.specs.Fields.{fop_kind, return_kind}
-use Rattle.due_pairs.specs.declared.PairKind.{PairKind}
-use Rattle.due_pairs.specs.declared.PairKind.TheVariants.{Fop, Return}
+use Rattle.settlement.specs.declared.PairKind.{PairKind}
+use Rattle.settlement.specs.declared.PairKind.TheVariants.{Fop, Return}
 
 -- the number of a kind in a request's row
 abbrev pub pair_number : PairKind → ℕ
