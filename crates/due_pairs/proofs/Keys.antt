@@ -2,13 +2,12 @@
 -- Assumes nothing.
 use mathlib.Core.Path.{◌≡◌, refl, sym, ◌∙◌}
 use mathlib.Core.Bool.{Bool, true, false, ◌||◌}
-use mathlib.Core.List.{List}
+use mathlib.Core.List.{List, [], ◌∷◌, ◌++◌}
 use Prim.Native.Nat.{ℕ, ◌+◌, ◌*◌, ◌≤◌, ◌<◌}
 use native.Mathlib.Numerals.{add-one}
 use native.Mathlib.Omega.{arith}
 use lib.Dec.{eqb, ltb}
-use lib.ListN.{length, set, length-set}
-use lib.Seq.{take-suc-set}
+use lib.ListN.{length-append}
 use borrow.Author.Tests.{ltb-false, eqb-false, not-true}
 use Rattle.laws.proofs.Cases.{and_right, or_left}
 use Rattle.calendar.specs.Target.{last_day, open_day}
@@ -18,7 +17,7 @@ use Rattle.facts.specs.Good.{Good}
 use Rattle.facts.proofs.Rows.{head_facts, used_fields}
 use Rattle.rules.specs.Requests.{is_used}
 use Rattle.rules.specs.Settlement.{is_due}
-use Rattle.due_pairs.specs.Due.{due_of, order_of, keys_of, Collected}
+use Rattle.due_pairs.specs.Due.{due_of, order_of, keys_of, KeysBelow}
 use Rattle.due_pairs.proofs.Returns.{due_used}
 
 -- an order is small enough for a key
@@ -38,24 +37,19 @@ pub due_small : (s : State) (kind i : ℕ) → Good s → i < 256 → due_of s k
 due_small s kind i g l h = order_small s i g l (due_used s i (and_right (eqb (s request_kinds i) kind) (is_due s i) h))
 
 -- one row more, in the code's i + 1
-module _ {s : State} {kind i : ℕ} {keys : List ℕ} {n : ℕ} (c : Collected s kind i keys n) {d : Bool} (dq : d ≡ due_of s kind i) where
-  pub not_noted : d ≡ false → Collected s kind (i + 1) keys n
+module _ {s : State} {kind i : ℕ} {keys : List ℕ} (c : KeysBelow s kind i keys) {d : Bool} (dq : d ≡ due_of s kind i) where
+  pub not_noted : d ≡ false → KeysBelow s kind (i + 1) keys
   unfolding keys_of
   not_noted h =
       let none : due_of s kind i ≡ false = sym dq ∙ h in
-      record { long = c.long; few = omega (arith, c.few); all = rw (add-one, none) c.all }
+      record { few = omega (arith, c.few); all = rw (add-one, none) c.all }
 
-  pub noted : i < 256 → d ≡ true → {order : ℕ} → order ≡ order_of s i → Collected s kind (i + 1) (set keys n (order * 256 + i)) (n + 1)
+  pub noted : d ≡ true → {order : ℕ} → order ≡ order_of s i → {after : List ℕ} → after ≡ keys ++ (order * 256 + i) ∷ [] → KeysBelow s kind (i + 1) after
   unfolding keys_of
-  noted l h oq =
+  noted h oq aq =
       let is : due_of s kind i ≡ true = sym dq ∙ h in
-      let inside : n < length keys = omega (arith, c.few, c.long) in
-      record {
-        long = simp length-set c.long;
-        few = omega (arith, c.few);
-        all = rw (add-one n, add-one i, is, take-suc-set keys n _ inside, c.all, oq);
-      }
+      record { few = rw (aq, length-append) (omega (arith, c.few)); all = rw (add-one i, is, aq, c.all, oq) }
 
-pub none_noted : (s : State) (kind : ℕ) (keys : List ℕ) → length keys ≡ 256 → Collected s kind 0 keys 0
+pub none_noted : (s : State) (kind : ℕ) {keys : List ℕ} → keys ≡ [] → KeysBelow s kind 0 keys
 unfolding keys_of
-none_noted s kind keys l = record { long = l; few = omega arith; all = refl }
+none_noted s kind e = rw e (record { few = omega arith; all = refl })

@@ -8,7 +8,6 @@ use Prim.Native.Nat.{ℕ, zero, suc, ◌+◌, ◌*◌, ◌/◌, ◌%◌, ◌≤�
 use native.Mathlib.Decide.{ℕ_discrete}
 use native.Mathlib.Omega.{arith}
 use lib.Dec.{leb}
-use lib.ListN.{take}
 use borrow.Author.Tests.{leb-true, le-leb, leb-false}
 use Rattle.std.specs.Prelude.{Option, Some, None}
 use Rattle.std.specs.List.{filter, fold, reduce}
@@ -17,7 +16,7 @@ use Rattle.laws.proofs.Cases.{either}
 use Rattle.laws.proofs.Lists.{In, Sorted}
 use Rattle.book.specs.State.{State}
 use Rattle.facts.specs.Good.{Good}
-use Rattle.due_pairs.specs.Due.{due_of, order_of, key_of, keys_of, Collected, least_from}
+use Rattle.due_pairs.specs.Due.{due_of, order_of, key_of, keys_of, least_from}
 use Rattle.due_pairs.proofs.Keys.{due_small}
 
 -- the lesser of a key that may be there and another
@@ -116,11 +115,11 @@ ahead_next {s} {kind} {last} {i} {rows} a = record {
   sorted = a.sorted.1;
 }
 
-module _ {s : State} {kind : ℕ} (last : ℕ) (g : Good s) {keys : List ℕ} {n : ℕ} (c : Collected s kind 256 keys n) where
-  least : least_from ((last + 1) * 256) (take n keys) ≡ least_of (due_of s kind) (order_of s) ((last + 1) * 256) 256
-  least = rw c.all
+module _ {s : State} (kind last : ℕ) (g : Good s) {keys : List ℕ} (c : keys ≡ keys_of (due_of s kind) (order_of s) 256) where
+  least : least_from ((last + 1) * 256) keys ≡ least_of (due_of s kind) (order_of s) ((last + 1) * 256) 256
+  least = rw c
 
-  pub none_left : Ahead s kind last [] → {k : ℕ} → Some k ≡ least_from ((last + 1) * 256) (take n keys) → ⊥
+  pub none_left : Ahead s kind last [] → {k : ℕ} → Some k ≡ least_from ((last + 1) * 256) keys → ⊥
   none_left a {k} q = least_holds (due_of s kind) (order_of s) ((last + 1) * 256) (λ x. ⊥) 256 (λ i l d h. a.all i l d (omega arith)) k (sym (q ∙ least))
 
   module _ {i : ℕ} {rows : List ℕ} (a : Ahead s kind last (i ∷ rows)) where
@@ -133,10 +132,10 @@ module _ {s : State} {kind : ℕ} (last : ℕ) (g : Good s) {keys : List ℕ} {n
     lowest_key : (k : ℕ) × (least_of (due_of s kind) (order_of s) ((last + 1) * 256) 256 ≡ Some k) × (k ≤ key_of (order_of s i) i)
     lowest_key = least_le (due_of s kind) (order_of s) ((last + 1) * 256) 256 i own.0 own.1 (omega (arith, own.2))
 
-    pub some_left : None ≡ least_from ((last + 1) * 256) (take n keys) → ⊥
+    pub some_left : None ≡ least_from ((last + 1) * 256) keys → ⊥
     some_left q = let e : None ≡ Some lowest_key.0 = q ∙ least ∙ lowest_key.1 in cc
 
-    module _ {k : ℕ} (q : Some k ≡ least_from ((last + 1) * 256) (take n keys)) where
+    module _ {k : ℕ} (q : Some k ≡ least_from ((last + 1) * 256) keys) where
       first_key : k ≡ key_of (order_of s i) i
       first_key =
           let t = due_of s kind in

@@ -1,6 +1,6 @@
 -- A row that is due, its place in the order and its key, the keys of all that are due, and the least key from a bound on.
 -- Assumes nothing.
-use Rattle.std.specs.Prelude.{◌≡◌, Bool, ◌&&◌, cond, List, [], ◌∷◌, ◌++◌, ℕ, Option, zero, suc, ◌+◌, ◌*◌, ◌≤◌, eqb, leb, min, length, take}
+use Rattle.std.specs.Prelude.{◌≡◌, Bool, ◌&&◌, cond, List, [], ◌∷◌, ◌++◌, ℕ, Option, zero, suc, ◌+◌, ◌*◌, ◌≤◌, eqb, leb, min, length}
 use Rattle.std.specs.List.{filter, reduce}
 use Rattle.book.specs.Layout.{numbers, request_kinds, settlements}
 use Rattle.book.specs.State.{State}
@@ -23,11 +23,10 @@ unfoldable pub keys_of : (ℕ → Bool) → (ℕ → ℕ) → ℕ → List ℕ
 keys_of t order zero = []
 keys_of t order (suc i) = cond (t i) (keys_of t order i ++ (key_of (order i) i ∷ [])) (keys_of t order i)
 
--- the first n numbers of a list are the keys of the rows of a kind below i that are due
-pub record Collected (s : State) (kind i : ℕ) (keys : List ℕ) (n : ℕ) : Type 0 where
-  pub long : length keys ≡ 256
-  pub few : n ≤ i
-  pub all : take n keys ≡ keys_of (due_of s kind) (order_of s) i
+-- a list is the keys of the rows of a kind below i that are due
+pub record KeysBelow (s : State) (kind i : ℕ) (keys : List ℕ) : Type 0 where
+  pub few : length keys ≤ i
+  pub all : keys ≡ keys_of (due_of s kind) (order_of s) i
 
 -- the least of some keys from a bound on
 abbrev pub least_from : ℕ → List ℕ → Option ℕ

@@ -1,12 +1,13 @@
 // The live pairs of a kind that are due, by their later requests: collected once as keys, and then the next by settlement date and the order in which they paired.
 #![tactic(auto)]
 
-ghost use Rattle.std.specs.Prelude.{◌≡◌, ◌+◌, ◌<◌, ◌≤◌, take};
+ghost use Rattle.std.specs.Prelude.{◌≡◌, ◌+◌, ◌<◌};
 ghost use Rattle.book.specs.State.{state};
 ghost use Rattle.facts.specs.Good.{Good};
 ghost use Rattle.rules.specs.Settlement.{is_due};
-ghost use Rattle.due_pairs.specs.Due.{due_of, order_of, Collected, least_from};
+ghost use Rattle.due_pairs.specs.Due.{due_of, order_of, keys_of, KeysBelow, least_from};
 
+use arrayvec::ArrayVec;
 use book::Book;
 use book::layout::Table;
 
@@ -52,52 +53,31 @@ fn is_due(book: &Book, kind: u64, i: usize) -> bool
     book::get(book, Table::RequestKinds, i) == kind && is_due_pair(book, i)
 }
 
+// Puts the key of a row that is due behind those found so far: its place in the order times 256, and the row.
+fn note_due(keys: &mut ArrayVec<u64, 256>, book: &Book, kind: u64, i: usize)
+    requires { Good (state book.now) × (i < 256) × KeysBelow (state book.now) kind i keys.old.items }
+    ensures { KeysBelow (state book.now) kind (i + 1) keys.new.items }
+{
+    if is_due(book, kind, i) {
+        keys.push(order_of(book, i) * 256 + i as u64);
+    }
+}
+
+// The keys of the rows of a kind that are due, in the order of the rows.
+pub fn due_keys(book: &Book, kind: u64) -> ArrayVec<u64, 256>
+    requires { Good (state book.now) }
+    ensures { result.items ≡ keys_of (due_of (state book.now) kind) (order_of (state book.now)) 256 }
+{
+    let mut keys = ArrayVec::new();
+    for i in 0..256 {
+        note_due(&mut keys, book, kind, i);
+    }
+    keys
+}
+
 // The least of some keys from a bound on.
 pub fn least_from(keys: &[u64], bound: u64) -> Option<u64>
     ensures { result ≡ least_from bound keys.now }
 {
     keys.iter().copied().filter(|key| bound <= *key).min()
-}
-
-// The rows of a kind that are due, each by its key: its place in the order times 256, and the row.
-#[derive(Clone, Copy)]
-pub struct DueKeys {
-    keys: [u64; 256],
-    count: usize,
-    ghost few: { count ≤ 256 },
-}
-
-impl DueKeys {
-    // Puts the key of a row that is due behind those found so far.
-    fn note(&mut self, book: &Book, kind: u64, i: usize)
-        requires { Good (state book.now) × (i < 256) × Collected (state book.now) kind i self.old.keys self.old.count }
-        ensures { Collected (state book.now) kind (i + 1) self.new.keys self.new.count }
-    {
-        if is_due(book, kind, i) {
-            self.keys[self.count] = order_of(book, i) * 256 + i as u64;
-            self.count += 1;
-        }
-    }
-
-    // The keys of the rows of a kind that are due.
-    pub fn of(book: &Book, kind: u64) -> DueKeys
-        requires { Good (state book.now) }
-        ensures { Collected (state book.now) kind 256 result.keys result.count }
-    {
-        let mut due = DueKeys {
-            keys: [0; 256],
-            count: 0,
-        };
-        for i in 0..256 {
-            due.note(book, kind, i);
-        }
-        due
-    }
-
-    // The least key from a bound on.
-    pub fn next_from(&self, bound: u64) -> Option<u64>
-        ensures { result ≡ least_from bound (take self.now.count self.now.keys) }
-    {
-        least_from(&self.keys[..self.count], bound)
-    }
 }

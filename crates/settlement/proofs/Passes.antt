@@ -8,7 +8,7 @@ use Prim.Native.Nat.{ℕ, ◌+◌, ◌*◌, ◌/◌, ◌%◌, ◌≤◌, ◌<◌
 use native.Mathlib.Decide.{ℕ_discrete}
 use native.Mathlib.Omega.{arith}
 use lib.Dec.{eqb}
-use lib.ListN.{length, take}
+use lib.ListN.{length}
 use borrow.Author.Tests.{eq-eqb, ne_eqb, eqb-true}
 use Rattle.laws.proofs.Cases.{either, and_left, and_right}
 use Rattle.laws.proofs.Lists.{Differ, sorted_by}
@@ -22,7 +22,7 @@ use Rattle.totals.specs.Totals.{totals_of}
 use Rattle.eligibility.specs.Fresh.{SamePrices}
 use Rattle.eligibility.proofs.Fresh.{same_start, same_prices, same_then}
 use Rattle.std.specs.Prelude.{Some, None}
-use Rattle.due_pairs.specs.Due.{Collected, least_from}
+use Rattle.due_pairs.specs.Due.{due_of, order_of, keys_of, least_from}
 use Rattle.due_pairs.proofs.Keys.{number_small}
 use Rattle.due_pairs.proofs.Next.{Ahead, ahead_next, none_left, some_left, next_row, next_order, next_fits, next_later}
 use Rattle.settlement_laws.specs.Ways.{PairOf, fop_settled, Way, fop_way, way_of, settle_by, left}
@@ -142,28 +142,28 @@ module _ {kind : ℕ} {s₀ : State} {t₀ : Totals} {n last : ℕ} {s : State} 
   passed l w = record { reached = w.leads; good = w.good; prices = w.prices; within = within_all l w.within }
 
   -- the least of the keys collected when the pass began is that of the first row left
-  module _ (g₀ : Good s₀) {keys : List ℕ} {count : ℕ} (c : Collected s₀ kind 256 keys count) where
-    pub underway_done : None ≡ least_from ((last + 1) * 256) (take count keys) → (rows : List ℕ) → Underway kind s₀ t₀ n last s t rows → Passed kind s₀ t₀ s t
+  module _ (g₀ : Good s₀) {keys : List ℕ} (c : keys ≡ keys_of (due_of s₀ kind) (order_of s₀) 256) where
+    pub underway_done : None ≡ least_from ((last + 1) * 256) keys → (rows : List ℕ) → Underway kind s₀ t₀ n last s t rows → Passed kind s₀ t₀ s t
     underway_done q [] w = passed (omega (arith, w.few)) w
-    underway_done q (i ∷ rows) w = absurd (some_left last g₀ c w.ahead q)
+    underway_done q (i ∷ rows) w = absurd (some_left kind last g₀ c w.ahead q)
 
-    module _ {key : ℕ} (q : Some key ≡ least_from ((last + 1) * 256) (take count keys)) where
+    module _ {key : ℕ} (q : Some key ≡ least_from ((last + 1) * 256) keys) where
       pub next_pair : (rows : List ℕ) → Underway kind s₀ t₀ n last s t rows → PairOf s kind (key % 256)
-      next_pair [] w = absurd (none_left last g₀ c w.ahead q)
-      next_pair (i ∷ rows) w = rw (next_row last g₀ c w.ahead q) (due_pair (w.lined.due i (inl refl)))
+      next_pair [] w = absurd (none_left kind last g₀ c w.ahead q)
+      next_pair (i ∷ rows) w = rw (next_row kind last g₀ c w.ahead q) (due_pair (w.lined.due i (inl refl)))
 
       -- its place in the order is after the last
       pub next_place : (rows : List ℕ) → Underway kind s₀ t₀ n last s t rows → (last < key / 256) × (key / 256 < 72057594037927935)
-      next_place [] w = absurd (none_left last g₀ c w.ahead q)
-      next_place (i ∷ rows) w = (next_later last g₀ c w.ahead q, next_fits last g₀ c w.ahead q)
+      next_place [] w = absurd (none_left kind last g₀ c w.ahead q)
+      next_place (i ∷ rows) w = (next_later kind last g₀ c w.ahead q, next_fits kind last g₀ c w.ahead q)
 
       -- one pair more
       pub underway_next : {u : State} {r : Totals} → Alike (begun u r) (settle_by (way_of kind) (begun s t) (key % 256)) → Within t 1 r
           → (rows : List ℕ) → Underway kind s₀ t₀ n last s t rows → (rest : List ℕ) × Underway kind s₀ t₀ (n + 1) (key / 256) u r rest
       unfolding settle_each
-      underway_next a m [] w = absurd (none_left last g₀ c w.ahead q)
+      underway_next a m [] w = absurd (none_left kind last g₀ c w.ahead q)
       underway_next {u} {r} a m (i ∷ rows) w =
-          let b : Alike (begun u r) (settle_by (way_of kind) (begun s t) i) = rw (next_row last g₀ c w.ahead q) at a in
+          let b : Alike (begun u r) (settle_by (way_of kind) (begun s t) i) = rw (next_row kind last g₀ c w.ahead q) at a in
           let uq : u ≡ left (way_of kind) s i = b.state ∙ by_left (way_of kind) (begun s t) i in
           let p = due_pair (w.lined.due i (inl refl)) in (
             rows,
@@ -173,7 +173,7 @@ module _ {kind : ℕ} {s₀ : State} {t₀ : Totals} {n last : ℕ} {s : State} 
               within = within_next w.within m;
               few = omega (arith, w.few);
               lined = rw uq (next_lined (way_of_lem kind) w.good w.lined);
-              ahead = rw (next_order last g₀ c w.ahead q) (ahead_next w.ahead);
+              ahead = rw (next_order kind last g₀ c w.ahead q) (ahead_next w.ahead);
               leads = alike_then (alike_each (way_of kind) rows b) w.leads;
             },
           )

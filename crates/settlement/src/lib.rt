@@ -13,7 +13,6 @@ ghost use Rattle.totals.specs.Totals.{totals_of};
 ghost use Rattle.settlement.specs.Passes.{begun, Alike, Room, Within, Passed};
 
 use book::Book;
-use due_pairs::DueKeys;
 use eligibility::Prices;
 use totals::Totals;
 
@@ -68,10 +67,11 @@ fn settle_pairs(book: &mut Book, prices: &Prices, kind: PairKind, start: Totals)
     requires { Good (state book.old) × PricesOf (state book.old) prices.now × Room 256 start }
     ensures { Passed (pair_number kind) (state book.old) start (state book.new) result }
 {
-    let due = DueKeys::of(book, u64::from(kind));
+    let keys = due_pairs::due_keys(book, u64::from(kind));
     let mut total = start;
     let mut last: u64 = 0;
-    while let Some(key) = due.next_from((last + 1) * 256) {
+    // No `for`: the next pair is what the search after the last one finds.
+    while let Some(key) = due_pairs::least_from(keys.as_slice(), (last + 1) * 256) {
         last = key / 256;
         total = settle_pair(book, prices, kind, (key % 256) as usize, total);
     }
