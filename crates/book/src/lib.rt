@@ -15,7 +15,7 @@ use big_endian::{number_at, put_number};
 use layout::Table;
 use std::array;
 
-// The book's bytes.
+// The book's bytes. Like all that works on it they have a fixed length: nothing uses the heap, so that a call needs no memory but the stack.
 pub type Book = [u8; 49152];
 
 // The number in the row i of a table.

@@ -1,4 +1,4 @@
-// What a call and a read begin with: a book of the right length that is sound.
+// What a call and a read begin with: a book of the right length that is sound; an opening asks for its length alone.
 #![tactic(auto)]
 
 ghost use Rattle.std.specs.Prelude.{◌≡◌, IfOk};
@@ -27,7 +27,7 @@ pub fn check_sound(book: &Book, opening: bool) -> Result<(), Refusal>
     }
 }
 
-// The book lent, where it has the right length and is sound.
+// The book lent, where it has the right length and, unless the record is an opening, is sound.
 pub fn sound_book(book: &[u8], opening: bool) -> Result<&Book, Refusal>
     ensures code { outcome_code result ≡ book_damage book.now opening }
     ensures same { IfOk result (λ sound. sound.now ≡ book.now) }

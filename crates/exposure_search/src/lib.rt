@@ -90,7 +90,8 @@ fn put_hint(hints: &mut [u8; 1024], book: &Book, e: usize)
     }
 }
 
-// Puts all used exposures into their slots. A hint is only where to look first: what is found does not depend on it.
+// Puts all used exposures into their slots. A hint is only where to look first: what is found does not depend on it. Hints are bytes, not
+// options: the 1,024 of them are filled at each call.
 pub fn put_hints(hints: &mut [u8; 1024], book: &Book)
     ensures { hints.new ≡ with_hints (state book.now) hints.old 64 }
 {

@@ -19,6 +19,7 @@ pub struct Parcel {
     pub value: u64,
 }
 
+// A parcel of nominal 0, not an `Option` of one: Pick adds it like any other.
 pub const NO_PARCEL: Parcel = Parcel {
     nominal: 0,
     value: 0,

@@ -69,6 +69,8 @@ impl TryFrom<u64> for Kind {
 // A record's numbers: those of its kind's fields in order, then zeros.
 pub const PLACES: usize = 8;
 
+// By their places, as the definitions and the table of kinds have them. A struct for each kind would be no plainer: thirteen structs, each
+// with a reader, a writer and its law, where one loop over the table and one law do.
 pub type Fields = [u64; PLACES];
 
 // A field: its bytes, the least and the greatest number that it may hold.
@@ -144,7 +146,7 @@ fn field_type(t: FieldType) -> Field
     }
 }
 
-// The types of the places of a kind.
+// The types of the places of a kind. As long as the paper's table of kinds, a line or a few for each.
 #[tactic(auto, unfolding(crate::specs::Kinds::kinds))]
 fn types_of(kind: Kind) -> [FieldType; PLACES]
     ensures { map typed result ≡ row (kind_number kind) }

@@ -6,7 +6,7 @@ ghost use Rattle.std.specs.Prelude.{◌≡◌, length, take};
 ghost use Rattle.rules.specs.Reads.{read_code};
 ghost use Rattle.replay.specs.Replay.{read_of, calls_of, One, Ran};
 
-// A call's code and how many of the bytes it took.
+// A call's code, as the entry answered it, and how many of the bytes it took.
 #[derive(Clone, Copy)]
 pub struct Done {
     pub code: u64,

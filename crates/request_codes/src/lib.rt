@@ -1,4 +1,5 @@
 // The rules of a FOP and of a return, group by group: each function finds the lowest code that its group gives.
+// They take fields and ask `RequestIn` of them; a `Record` would ask their callers for more.
 #![tactic(auto)]
 
 ghost use Rattle.std.specs.Prelude.{◌≡◌, ◌<◌, ◌≤◌};

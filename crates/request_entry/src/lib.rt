@@ -1,5 +1,6 @@
 // Entering a request: one that waits, one that pairs with an equal one, one with a taker request made for it; and the exposure
 // that a FOP pair belongs to.
+// The functions take a kind and fields and ask `EntryIn` of them; a `Record` would ask their callers for more.
 #![tactic(auto)]
 
 ghost use Rattle.std.specs.Prelude.{◌≡◌, ◌<◌};

@@ -1,4 +1,5 @@
 // Writing a request's row: its parts, the row that is taken for it, and whether its pair may settle in part.
+// The functions take a kind and fields and ask `EntryIn` of them; a `Record` would ask their callers for more.
 #![tactic(auto)]
 
 ghost use Rattle.std.specs.Prelude.{◌≡◌, cond, ◌<◌, ◌≤◌};

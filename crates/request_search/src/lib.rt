@@ -1,4 +1,5 @@
 // What a request or a cancel looks for in the book: acceptance, the earliest equal request, free rows, the owner's request.
+// It takes fields and asks `RequestIn` of them; a `Record` would ask its callers for more.
 #![tactic(auto)]
 
 ghost use Rattle.std.specs.Prelude.{◌≡◌, not, ◌&&◌, ◌<◌, ◌≤◌, eqb, MatchOption};
@@ -20,7 +21,8 @@ use book::layout::Table;
 use exposure_search::ExposureKey;
 use record_kinds::{Fields, Kind};
 
-// Is the taker automatic, or does it list the giver?
+// Is the taker automatic, or does it list the giver? The mode is a number of the book, as is the side below: an enum would need a way out
+// for numbers that only an unsound book holds.
 pub fn accepts_giver(book: &Book, taker: usize, giver: u64) -> bool
     requires { (taker < 32) × (giver < 64) }
     ensures { result ≡ accepts_giver (state book.now) taker giver }
@@ -112,6 +114,7 @@ pub fn earliest_equal(book: &Book, kind: u64, fields: &Fields) -> Option<usize>
     requires { RequestIn fields.now }
     ensures { result ≡ found 256 (earliest_equal (state book.now) kind fields.now) }
 {
+    // A loop, not a fold: folded, each turn compares a pair of options, and the whole search takes longer.
     let mut best = None;
     for i in 0..256 {
         best = earlier(book, kind, fields, best, i);

@@ -34,7 +34,7 @@ pub fn are_rows_empty(book: &Book, table: Table, start: usize, n: usize) -> bool
     are_empty(&book[from..to])
 }
 
-// Do two rows of a table hold the same?
+// Do two rows of a table hold the same? No `==` of two values: both stand in one book.
 fn is_same(book: &Book, table: Table, i: usize, j: usize) -> bool
     requires { (i < rows_of (number table)) × (j < rows_of (number table)) }
     ensures { result ≡ same (state book.now) (number table) i j }

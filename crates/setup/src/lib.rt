@@ -16,7 +16,7 @@ use book::layout::Table;
 use record_kinds::Fields;
 use records::record::Record;
 
-// 0: the code of an opening.
+// 0: the code of an opening, of any fields: a `Record` would ask for legal ones.
 #[tactic(auto, unfolding(rules::specs::Codes::opening_rules))]
 pub fn check_opening(fields: &Fields) -> Result<(), Refusal>
     ensures { outcome_code result ≡ lowest (opening_rules fields.now) }

@@ -61,6 +61,7 @@ pub fn are_sound_securities(book: &Book) -> bool
     true
 }
 
+// The mode is a number of the book: which numbers are modes is what is tested here.
 fn is_sound_profile(mode: u64, list: u64, partial: u64) -> bool
     ensures { result ≡ sound_profile mode list partial }
 {
