@@ -54,8 +54,3 @@ module _ (test : State → ℕ → Bool) (step : State → ℕ → State) (s : S
 
   pub step_left : b ≡ false → s ≡ tried test step s i
   step_left h = rw (sym e ∙ h)
-
--- a test as a number, in the code's words
-pub counted : {n : ℕ} (b : Bool) {t : Bool} → n ≡ bool_byte b → b ≡ t → n ≡ cond t 1 0
-counted true p q = rw (← q) p
-counted false p q = rw (← q) p

@@ -13,12 +13,6 @@ use Rattle.laws.proofs.Cases.{either, clash, and_left}
 use Rattle.laws.proofs.Least.{least_hit, least_miss, least_none, count_hit, count_miss, count_none}
 
 module _ (t : ℕ → Bool) where
-  pub least_le : (n i : ℕ) → least t n i ≤ i + n
-  least_le zero i = omega (arith, least_none t i)
-  least_le (suc n) i =
-      let later = least_le n (suc i) in
-      ⊎_elim (λ p. omega (arith, least_hit t n i p)) (λ p. omega (arith, least_miss t n i p, later)) (either (t i))
-
   -- what is found passes the test
   pub least_holds : (n i : ℕ) → least t n i < i + n → t (least t n i) ≡ true
   least_holds zero i h = absurd (omega (arith, least_none t i))

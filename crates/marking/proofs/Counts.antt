@@ -14,7 +14,7 @@ use lib.Seq.{get_or-set_same, get_or-set_other}
 use borrow.Author.Count.{below_more}
 use Rattle.laws.specs.Search.{count}
 use Rattle.laws.specs.Sum.{sum}
-use Rattle.laws.proofs.Cases.{either}
+use Rattle.laws.proofs.Cases.{counted, either}
 use Rattle.laws.proofs.Least.{count_hit, count_miss, count_none}
 use Rattle.laws.proofs.Sum.{sum_next}
 
@@ -68,10 +68,6 @@ pub or_second : {b flag test : Bool} → b ≡ test → flag ≡ false → b ≡
 or_second p q = rw q p
 
 -- a test as a number
-byte_is : (b : Bool) → bool_byte b ≡ cond b 1 0
-byte_is true = refl
-byte_is false = refl
-
 pub byte_le : (b : Bool) {x : ℕ} → x ≡ bool_byte b → x ≤ 1
 byte_le true q = omega (arith, q)
 byte_le false q = omega (arith, q)
@@ -79,6 +75,6 @@ byte_le false q = omega (arith, q)
 -- so a loop counts
 pub count_more : (test : ℕ → Bool) (e : ℕ) {n x : ℕ} {b : Bool} → n ≡ count test e 0 → x ≡ bool_byte b → b ≡ test e → n + x ≡ count test (e + 1) 0
 count_more test e {n} {x} {b} h q p =
-    let here : x ≡ cond (test e) 1 0 = q ∙ byte_is b ∙ ap {B = ℕ} (λ (t : Bool). cond t 1 0) p in
+    let here : x ≡ cond (test e) 1 0 = counted b q p in
     let last : count test (suc e) 0 ≡ count test e 0 + cond (test e) 1 0 = rw zero-add at (count_last test e 0) in
     rw (add-one, last, h, here)

@@ -19,7 +19,7 @@ use Rattle.rules.specs.Reads.{Read, request, row_of, read_rules, read_code, read
 use Rattle.book.specs.Layout.{in_use, numbers}
 use Rattle.rules.specs.Requests.{is_in_use, is_used}
 use Rattle.rules.specs.Sound.{sound}
-use Rattle.facts.proofs.Searches.{least_le}
+use Rattle.laws.proofs.Ranges.{least_le}
 use Rattle.laws.specs.Filled.{filled}
 use Rattle.laws.specs.Found.{found}
 use Rattle.laws.proofs.Found.{found_some, found_nothing}

@@ -19,7 +19,7 @@ use Rattle.rules.specs.Requesting.{pairs_now, exposure_of, needs_exposure, expos
 use Rattle.rules.specs.Fields.{giver_in, taker_in, basket_or_exposure_in, closing_in}
 use Rattle.facts.proofs.Keeps.{Keeps}
 use Rattle.facts.specs.Good.{Good}
-use Rattle.facts.proofs.Searches.{least_le}
+use Rattle.laws.proofs.Ranges.{least_le}
 use Rattle.facts.proofs.Sums.{all_noted}
 use Rattle.request_laws.proofs.Accepting.{fop_names, fop_request, fop_enough, fop_exposure, return_request, return_enough}
 use Rattle.request_laws.proofs.Covering.{leaving}

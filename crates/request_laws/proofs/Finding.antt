@@ -15,7 +15,8 @@ use Rattle.book.proofs.Images.{put_same, put_other}
 use Rattle.rules.specs.Requests.{is_used, is_whole, is_live, is_owner, has_key, exposure_with, free_exposure, free_row}
 use Rattle.rules.specs.Requesting.{is_equal, earliest_equal, is_own_request, own_request}
 use Rattle.facts.proofs.Truth.{split}
-use Rattle.facts.proofs.Searches.{least_le, least_holds, least_first, count_finds, count_but_one, found_by}
+use Rattle.laws.proofs.Ranges.{least_le}
+use Rattle.facts.proofs.Searches.{least_holds, least_first, count_finds, count_but_one, found_by}
 
 -- a request row that is not used
 pub record Free (s : State) (i : ℕ) : Type 0 where

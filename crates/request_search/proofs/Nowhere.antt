@@ -12,7 +12,7 @@ use Rattle.laws.specs.Search.{least}
 use Rattle.laws.specs.Found.{found}
 use Rattle.laws.proofs.Cases.{clash}
 use Rattle.laws.proofs.Found.{found_nothing}
-use Rattle.facts.proofs.Searches.{least_le}
+use Rattle.laws.proofs.Ranges.{least_le}
 
 pub nowhere : (t : ℕ → Bool) {r : Option ℕ} {b : Bool} → r ≡ found 64 (least t 64 0) → is_some r ≡ not b → b ≡ true → eqb (least t 64 0) 64 ≡ true
 nowhere t {r = None} e s h = eq-eqb (least t 64 0) 64 (omega (arith, found_nothing 64 (least t 64 0) e refl, least_le t 64 0))

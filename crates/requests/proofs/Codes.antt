@@ -12,7 +12,7 @@ use Rattle.answers.specs.Refusals.{number}
 use Rattle.answers.specs.declared.Refusal.{Refusal}
 use Rattle.laws.specs.Found.{found}
 use Rattle.laws.proofs.Found.{found_nothing}
-use Rattle.facts.proofs.Searches.{least_le}
+use Rattle.laws.proofs.Ranges.{least_le}
 use Rattle.facts.proofs.Rules.{stops, goes_on}
 use Rattle.book.specs.Layout.{tolerance, modes}
 use Rattle.book.specs.State.{State}

@@ -10,7 +10,8 @@ use Rattle.facts.proofs.Written.{sound_facts}
 use Rattle.rules.specs.DayChange.{row_dropped, rows_dropped}
 use Rattle.day_laws.proofs.Each.{no_turn}
 use Rattle.day_rows.specs.Parts.{drops}
-use Rattle.day_rows.proofs.OnEach.{loop_steps, loop_counts, counted}
+use Rattle.laws.proofs.Cases.{counted}
+use Rattle.day_rows.proofs.OnEach.{loop_steps, loop_counts}
 use Rattle.day_rows.proofs.Rows.{rows_apart, later_named, sound_named}
 use Rattle.day_rows.proofs.drop_rows.Goals as goal
 
