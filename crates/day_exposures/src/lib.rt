@@ -2,10 +2,10 @@
 // An exposure is tested and changed in one pass: no test reads what the steps on those before it have changed.
 #![tactic(auto)]
 
-ghost use Rattle.std.specs.Prelude.{◌≡◌, true, ◌+◌, ◌*◌, ◌<◌, length, replicate};
+ghost use Rattle.std.specs.Prelude.{◌≡◌, true, ◌+◌, ◌*◌, ◌<◌, replicate};
 ghost use Rattle.laws.specs.Search.{all};
 ghost use Rattle.laws.specs.Sum.{sum};
-ghost use Rattle.book.specs.Layout.{book_length, accounts, positions};
+ghost use Rattle.book.specs.Layout.{accounts, positions};
 ghost use Rattle.book.specs.State.{state};
 ghost use Rattle.rules.specs.DayChange.{is_exposure_closed, exposure_closed, exposures_closed, belongs, is_idle, exposure_freed, exposures_freed};
 ghost use Rattle.rules.specs.Sound.{sound};
