@@ -10,6 +10,5 @@ use Rattle.day_exposures.proofs.close_exposures.Given as goal
 
 abbrev pub invariant-loop-e : goal.invariant-loop-e
 invariant-loop-e l = (l.e ≤ 64)
-   
     × (l.closed ≡ sum (amount_closed (state l.initial.book)) l.e)
     × (state l.book ≡ on_each (is_exposure_closed (state l.initial.book)) exposure_closed l.e (state l.initial.book))

@@ -9,6 +9,5 @@ use Rattle.day_exposures.proofs.free_exposures.Given as goal
 
 abbrev pub invariant-loop-e : goal.invariant-loop-e
 invariant-loop-e l = (l.e ≤ 64)
-   
     × (state l.book ≡ on_each (is_idle (state l.initial.book)) exposure_freed l.e (state l.initial.book))
     × Marked (state l.initial.book) l.marks 256
