@@ -16,6 +16,7 @@ ghost use Rattle.day_exposures.specs.Parts.{amount_closed, is_held, security_bac
 use book::Book;
 use book::layout::{EXPOSURE_TABLES, Table};
 use exposure_search::ExposureKey;
+use record_kinds::Kind;
 
 // Gives one security of a position back to its owner, where it is held.
 fn give_security(book: &mut Book, owner: usize, e: usize, i: usize)
@@ -76,12 +77,12 @@ fn does_belong(book: &Book, e: usize, i: usize) -> bool
     if book::get(book, Table::Numbers, i) == 0 {
         return false;
     }
-    match book::get(book, Table::RequestKinds, i) {
-        6 => {
+    match Kind::try_from(book::get(book, Table::RequestKinds, i)) {
+        Ok(Kind::Fop) => {
             book::get(book, Table::Partners, i) != 0
                 && exposure_search::has_key(book, ExposureKey::of_request(book, i), e)
         }
-        7 => book::get(book, Table::BasketsOrExposures, i) == e as u64,
+        Ok(Kind::Return) => book::get(book, Table::BasketsOrExposures, i) == e as u64,
         _ => false,
     }
 }
@@ -102,7 +103,7 @@ fn row_slot(book: &Book, i: usize) -> Option<usize>
     if book::get(book, Table::Numbers, i) == 0 {
         return None;
     }
-    if book::get(book, Table::RequestKinds, i) == 7 {
+    if book::get(book, Table::RequestKinds, i) == Kind::Return as u64 {
         let exposure = book::get(book, Table::BasketsOrExposures, i);
         if 64 <= exposure {
             return None;
