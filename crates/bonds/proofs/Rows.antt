@@ -4,17 +4,16 @@ use mathlib.Core.Path.{◌≡◌, sym, ◌∙◌}
 use mathlib.Core.List.{List}
 use Prim.Native.Nat.{ℕ, ◌≤◌, ◌<◌}
 use lib.ListN.{get_or}
-use Rattle.baskets.specs.declared.Basket.{Basket}
 use Rattle.securities.specs.Position.{nominals_of}
 use Rattle.securities.specs.Bounds.{AllInBounds, Within}
 use Rattle.book.specs.Layout.{in_use, exposure_baskets, exposure_amounts}
 use Rattle.book.specs.State.{state}
 use Rattle.book.proofs.Images.{state_fits}
-use Rattle.rules.specs.Stock.{basket_of, position_of}
+use Rattle.rules.specs.Stock.{position_of}
 use Rattle.facts.proofs.Written.{sound_facts}
 use Rattle.facts.specs.Good.{Sound, Good}
 use Rattle.facts.proofs.Rows.{Exposure, used_exposure}
-use Rattle.facts.proofs.Stock.{columns_bounded, age_le, position_within}
+use Rattle.facts.proofs.Stock.{columns_bounded, position_within}
 use Rattle.bonds.specs.Moves.{SoundBook}
 
 module _ {book columns : List ℕ} (m : SoundBook book columns) where
@@ -42,6 +41,3 @@ module _ {book columns : List ℕ} (m : SoundBook book columns) where
 
       pub amount_le : state book exposure_amounts e ≤ 10000000000000
       amount_le = exposure_of_lem.amount
-
-      pub oldest_le : {b : Basket} → b ≡ basket_of (state book) e → b.oldest ≤ 255
-      oldest_le h = rw h (age_le (state book) facts_of (state book exposure_baskets e) basket_below)

@@ -1,6 +1,6 @@
 -- What closing an exposure counts on, and the tests of an exposure.
 -- Assumes nothing.
-use Rattle.std.specs.Prelude.{◌≡◌, Bool, true, not, cond, List, ℕ, ◌+◌, ◌*◌, ◌≤◌, ◌<◌, eqb, length, get_or}
+use Rattle.std.specs.Prelude.{◌≡◌, Bool, true, false, not, cond, List, Option, Some, IfSome, ℕ, ◌+◌, ◌*◌, ◌≤◌, ◌<◌, eqb, length, get_or}
 use Rattle.limits.specs.Limits.{greatest_exposure, greatest_nominal}
 use Rattle.book.specs.Layout.{in_use, exposure_givers, exposure_amounts, accounts, positions}
 use Rattle.book.specs.State.{State, put}
@@ -36,15 +36,15 @@ abbrev pub is_not_of : State → ℕ → ℕ → Bool
 is_not_of s e i = not (belongs s e i)
 
 -- a row has the slot of the exposure that it belongs to
-pub record RowSlot (s : State) (i slot : ℕ) : Type 0 where
-  pub below : slot < 1025
-  pub same : (e : ℕ) → e < 64 → belongs s e i ≡ true → slot ≡ slot_of s e
+pub record RowSlot (s : State) (i : ℕ) (slot : Option ℕ) : Type 0 where
+  pub below : IfSome slot (λ x. x < 1024)
+  pub same : (e : ℕ) → e < 64 → belongs s e i ≡ true → slot ≡ Some (slot_of s e)
 
 -- the exposures that the rows before i belong to are marked, each at its slot
-pub record Marked (s : State) (marks : List ℕ) (i : ℕ) : Type 0 where
-  pub long : length marks ≡ 1025
-  pub each : (e j : ℕ) → e < 64 → j < i → belongs s e j ≡ true → get_or marks (slot_of s e) 0 ≡ 1
+pub record Marked (s : State) (marks : List Bool) (i : ℕ) : Type 0 where
+  pub long : length marks ≡ 1024
+  pub each : (e j : ℕ) → e < 64 → j < i → belongs s e j ≡ true → get_or marks (slot_of s e) false ≡ true
 
 -- one exposure is marked, if a row belongs to it
-pub record MarkedFor (s : State) (marks : List ℕ) (e : ℕ) : Type 0 where
-  pub mark : (j : ℕ) → j < 256 → belongs s e j ≡ true → get_or marks (slot_of s e) 0 ≡ 1
+pub record MarkedFor (s : State) (marks : List Bool) (e : ℕ) : Type 0 where
+  pub mark : (j : ℕ) → j < 256 → belongs s e j ≡ true → get_or marks (slot_of s e) false ≡ true

@@ -2,10 +2,10 @@
 // An exposure is tested and changed in one pass: no test reads what the steps on those before it have changed.
 #![tactic(auto)]
 
-ghost use Rattle.std.specs.Prelude.{◌≡◌, true, ◌+◌, ◌*◌, ◌<◌, length, replicate};
+ghost use Rattle.std.specs.Prelude.{◌≡◌, true, ◌+◌, ◌*◌, ◌<◌, replicate};
 ghost use Rattle.laws.specs.Search.{all};
 ghost use Rattle.laws.specs.Sum.{sum};
-ghost use Rattle.book.specs.Layout.{book_length, accounts, positions};
+ghost use Rattle.book.specs.Layout.{accounts, positions};
 ghost use Rattle.book.specs.State.{state};
 ghost use Rattle.rules.specs.DayChange.{is_exposure_closed, exposure_closed, exposures_closed, belongs, is_idle, exposure_freed, exposures_freed};
 ghost use Rattle.rules.specs.Sound.{sound};
@@ -16,6 +16,7 @@ ghost use Rattle.day_exposures.specs.Parts.{amount_closed, is_held, security_bac
 use book::Book;
 use book::layout::{EXPOSURE_TABLES, Table};
 use exposure_search::ExposureKey;
+use record_kinds::Kind;
 
 // Gives one security of a position back to its owner, where it is held.
 fn give_security(book: &mut Book, owner: usize, e: usize, i: usize)
@@ -76,12 +77,12 @@ fn does_belong(book: &Book, e: usize, i: usize) -> bool
     if book::get(book, Table::Numbers, i) == 0 {
         return false;
     }
-    match book::get(book, Table::RequestKinds, i) {
-        6 => {
+    match Kind::try_from(book::get(book, Table::RequestKinds, i)) {
+        Ok(Kind::Fop) => {
             book::get(book, Table::Partners, i) != 0
                 && exposure_search::has_key(book, ExposureKey::of_request(book, i), e)
         }
-        7 => book::get(book, Table::BasketsOrExposures, i) == e as u64,
+        Ok(Kind::Return) => book::get(book, Table::BasketsOrExposures, i) == e as u64,
         _ => false,
     }
 }
@@ -94,22 +95,22 @@ fn does_none_belong(book: &Book, e: usize) -> bool
     !(0..256).any(|i| does_belong(book, e, i))
 }
 
-// The slot of the exposure that a row belongs to; any slot for a row that belongs to none, as 1,024 for one that is not in use.
-fn row_slot(book: &Book, i: usize) -> usize
+// The slot of the exposure that a row belongs to. A row that belongs to none may have one too: only time depends on it.
+fn row_slot(book: &Book, i: usize) -> Option<usize>
     requires { i < 256 }
     ensures { RowSlot (state book.now) i result }
 {
     if book::get(book, Table::Numbers, i) == 0 {
-        return 1024;
+        return None;
     }
-    if book::get(book, Table::RequestKinds, i) == 7 {
+    if book::get(book, Table::RequestKinds, i) == Kind::Return as u64 {
         let exposure = book::get(book, Table::BasketsOrExposures, i);
         if 64 <= exposure {
-            return 1024;
+            return None;
         }
-        return exposure_search::slot_of(book, exposure as usize);
+        return Some(exposure_search::slot_of(book, exposure as usize));
     }
-    ExposureKey::of_request(book, i).slot()
+    Some(ExposureKey::of_request(book, i).slot())
 }
 
 // Is there a used exposure of amount 0? Only time depends on it.
@@ -119,23 +120,32 @@ fn is_any_empty(book: &Book) -> bool {
     })
 }
 
+// Marks the slot of the exposure that a row belongs to.
+fn mark_row(marks: &mut [bool; 1024], book: &Book, i: usize)
+    requires { (i < 256) × Marked (state book.now) marks.old i }
+    ensures { Marked (state book.now) marks.new (i + 1) }
+{
+    if let Some(slot) = row_slot(book, i) {
+        marks[slot] = true;
+    }
+}
+
 // Marks the slots of the exposures that rows belong to. Where no used exposure has amount 0, no mark is read, and all stay set.
-fn mark_rows(marks: &mut [u8; 1025], book: &Book)
-    requires { marks.old ≡ replicate 1025 1 }
+fn mark_rows(marks: &mut [bool; 1024], book: &Book)
+    requires { marks.old ≡ replicate 1024 true }
     ensures { Marked (state book.now) marks.new 256 }
 {
     if !is_any_empty(book) {
         return;
     }
-    *marks = [0; 1025];
+    *marks = [false; 1024];
     for i in 0..256 {
-        let slot = row_slot(book, i);
-        marks[slot] = 1;
+        mark_row(marks, book, i);
     }
 }
 
 // Is a used exposure of amount 0, with no row that belongs to it? The rows are looked through only where its slot is marked.
-fn is_idle(book: &Book, marks: &[u8; 1025], e: usize) -> bool
+fn is_idle(book: &Book, marks: &[bool; 1024], e: usize) -> bool
     requires { (e < 64) × MarkedFor (state book.now) marks.now e }
     ensures { result ≡ is_idle (state book.now) e }
 {
@@ -146,14 +156,14 @@ fn is_idle(book: &Book, marks: &[u8; 1025], e: usize) -> bool
         return false;
     }
     let slot = exposure_search::slot_of(book, e);
-    if marks[slot] == 0 {
+    if !marks[slot] {
         return true;
     }
     does_none_belong(book, e)
 }
 
 // Frees an exposure that is idle.
-fn free_exposure(book: &mut Book, marks: &[u8; 1025], e: usize)
+fn free_exposure(book: &mut Book, marks: &[bool; 1024], e: usize)
     requires { (e < 64) × MarkedFor (state book.old) marks.now e }
     ensures { state book.new ≡ tried is_idle exposure_freed (state book.old) e }
 {
@@ -166,7 +176,7 @@ fn free_exposure(book: &mut Book, marks: &[u8; 1025], e: usize)
 pub fn free_exposures(book: &mut Book)
     ensures { state book.new ≡ exposures_freed (state book.old) }
 {
-    let mut marks = [1u8; 1025];
+    let mut marks = [true; 1024];
     mark_rows(&mut marks, book);
     for e in 0..64 {
         free_exposure(book, &marks, e);

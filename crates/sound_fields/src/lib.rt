@@ -10,6 +10,7 @@ use book::Book;
 use book::layout::Table;
 use limits::GREATEST_AMOUNT;
 use open_days::OpenDays;
+use record_kinds::Kind;
 
 // A used row, each field read once: the reference says nothing about soundness.
 #[derive(Clone, Copy, Debug, PartialEq, Eq)]
@@ -86,14 +87,14 @@ fn is_sound_return(book: &Book, q: Request) -> bool
     does_return_name(book, q) && (1..=GREATEST_AMOUNT).contains(&q.amount) && q.closing == 0
 }
 
-// The fields that depend on the kind, as the book numbers it.
+// The fields that depend on the kind.
 fn is_sound_kind(book: &Book, q: Request, days: &OpenDays) -> bool
     requires { Reads (state book.now) q }
     ensures { result ≡ sound_kind (state book.now) q.row }
 {
-    match q.kind {
-        6 => is_sound_fop(book, q, days),
-        7 => is_sound_return(book, q),
+    match Kind::try_from(q.kind) {
+        Ok(Kind::Fop) => is_sound_fop(book, q, days),
+        Ok(Kind::Return) => is_sound_return(book, q),
         _ => false,
     }
 }

@@ -12,6 +12,7 @@ ghost use Rattle.sound_pairs.specs.Rest.{unpaired_of, sound_rest};
 use book::Book;
 use book::layout::Table;
 use exposure_search::ExposureKey;
+use record_kinds::Kind;
 use sound_fields::Request;
 
 // Is one of two sides 0 and the other 1?
@@ -76,7 +77,7 @@ fn does_belong(book: &Book, hints: &[u8; 1024], q: Request) -> bool
         basket: q.object,
         closing: q.closing,
     };
-    q.kind == 7 || exposure_search::has_exposure(book, hints, key)
+    q.kind == Kind::Return as u64 || exposure_search::has_exposure(book, hints, key)
 }
 
 fn is_sound_paired(book: &Book, hints: &[u8; 1024], q: Request) -> bool

@@ -2,9 +2,7 @@
 -- Assumes nothing.
 use mathlib.Core.Path.{◌≡◌}
 use Prim.Native.Nat.{◌≤◌}
-use lib.ListN.{length}
 use Rattle.laws.specs.Sum.{sum}
-use Rattle.book.specs.Layout.{book_length}
 use Rattle.book.specs.State.{state}
 use Rattle.rules.specs.DayChange.{on_each, is_exposure_closed, exposure_closed}
 use Rattle.day_exposures.specs.Parts.{amount_closed}
@@ -12,6 +10,5 @@ use Rattle.day_exposures.proofs.close_exposures.Given as goal
 
 abbrev pub invariant-loop-e : goal.invariant-loop-e
 invariant-loop-e l = (l.e ≤ 64)
-    × (length l.book ≡ book_length)
     × (l.closed ≡ sum (amount_closed (state l.initial.book)) l.e)
     × (state l.book ≡ on_each (is_exposure_closed (state l.initial.book)) exposure_closed l.e (state l.initial.book))

@@ -8,7 +8,6 @@ use Rattle.day_laws.proofs.Each.{no_turn}
 use Rattle.day_rows.proofs.OnEach.{loop_steps}
 use Rattle.day_exposures.proofs.Exposures.{freed_apart}
 use Rattle.day_exposures.proofs.Marks.{later_marked}
-use borrow.Author.Rules.{rules}
 use Rattle.day_exposures.proofs.free_exposures.Goals as goal
 
 pub mark_rows-requires : goal.mark_rows-requires
@@ -17,24 +16,23 @@ mark_rows-requires c = refl
 pub loop-e-init : goal.loop-e-init
 loop-e-init c =
     let first = state c.args.book.now in
-    (omega arith, (omega arith), sym (no_turn (is_idle first) exposure_freed first), c.mark_rows.ensures)
+    (omega arith, sym (no_turn (is_idle first) exposure_freed first), c.mark_rows.ensures)
 
 pub free_exposure-requires : goal.free_exposure-requires
 free_exposure-requires c =
     let first = state c.args.book.now in
-    (omega arith, rw c.loop-e.invariant.2 (later_marked first _ c.loop-e.e (omega arith) c.loop-e.invariant.3))
+    (omega arith, rw c.loop-e.invariant.1 (later_marked first _ c.loop-e.e (omega arith) c.loop-e.invariant.2))
 
 pub loop-e-preserved : goal.loop-e-preserved
 loop-e-preserved c =
     let first = state c.args.book.now in (
       omega arith,
-      search rules,
-      loop_steps is_idle exposure_freed freed_apart first c.loop-e.e c.loop-e.invariant.2 c.free_exposure.ensures,
-      c.loop-e.invariant.3,
+      loop_steps is_idle exposure_freed freed_apart first c.loop-e.e c.loop-e.invariant.1 c.free_exposure.ensures,
+      c.loop-e.invariant.2,
     )
 
 pub returns : goal.returns
 unfolding exposures_freed
 returns c =
     let e : c.loop-e.e ≡ 64 = omega arith in
-    rw (← e) c.loop-e.invariant.2
+    rw (← e) c.loop-e.invariant.1

@@ -10,8 +10,8 @@ returns-then-get-ne1 c = search idle_unused
 pub returns-then-get-ne0 : goal.returns-then-get-ne0
 returns-then-get-ne0 c = search idle_amount
 
-pub returns-then-marks-slot-eq0 : goal.returns-then-marks-slot-eq0
-returns-then-marks-slot-eq0 c = search idle_unmarked
+pub returns-then-not-marks-slot : goal.returns-then-not-marks-slot
+returns-then-not-marks-slot c = search idle_unmarked
 
 pub returns : goal.returns
 returns c = search by_rows
