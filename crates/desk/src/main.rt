@@ -69,21 +69,19 @@ impl Desk {
             .map_err(|_| Failure::Write)
     }
 
-    // Serves the whole records that are held: makes their calls and puts their lines, in place of those that were there.
+    // Serves the whole records that are held: makes their calls and puts their lines, in place of those that were there. These fit, since a
+    // record has a byte or more, and a line at most 126: six numbers of up to 20 digits, with a byte after each.
     fn serve_held(&mut self)
         requires { self.old.place + 512 < 18446744073709551616 }
         ensures served { ServesHeld self.old.book self.old.input self.old.place self.new.book self.new.lines.items self.new.input self.new.place }
         ensures place_bound { self.new.place ≤ self.old.place + 512 }
     {
         self.lines.clear();
-        let p = lines::serve(
-            &mut self.book,
-            self.input.held(),
-            &mut self.lines,
-            self.place,
-        );
-        self.input.consume(p.taken);
-        self.place = p.place;
+        while let Some(served) = lines::serve_first(&mut self.book, self.input.held(), self.place) {
+            self.lines.try_extend_from_slice(&served.line).unwrap();
+            self.place += 1;
+            self.input.consume(served.taken);
+        }
     }
 
     // Reads a piece behind what is left of the last one, serves it and writes its lines; answers how many bytes were read.
@@ -122,9 +120,8 @@ impl Desk {
     fn finish<W: Write>(&mut self, writer: &mut W) -> Result<(), Failure>
         ensures { OnOk result (Appends (W.contents writer.old) (W.contents writer.new) (last_line self.old.place self.old.input)) }
     {
-        self.lines.clear();
-        line_text::put_last(&mut self.lines, self.place, self.input.held());
-        self.write_lines(writer)
+        let line = line_text::last_line(self.place, self.input.held());
+        writer.write_all(&line).map_err(|_| Failure::Write)
     }
 }
 

@@ -2,20 +2,19 @@
 // and the text of a line for each.
 #![tactic(auto)]
 
-ghost use Rattle.std.specs.Prelude.{◌≡◌, ◌+◌, ◌*◌, ◌≤◌, ◌<◌, ◌++◌, pos, length, get_or, take, drop, IfSome, IfNone};
+ghost use Rattle.std.specs.Prelude.{◌≡◌, ◌+◌, ◌≤◌, ◌<◌, pos, length, take, drop, IfSome, IfNone};
 ghost use Rattle.std.specs.Int.Signed.{lt_z};
-ghost use Rattle.rules.specs.Call.{call_answer, call_book};
-ghost use Rattle.lines.specs.Program.{record_length, first_record};
-ghost use Rattle.lines.specs.Pieces.{Serves, is_awaited, is_over};
-ghost use Rattle.line_text.specs.Text.{line_of};
+ghost use Rattle.rules.specs.Call.{call_book};
+ghost use Rattle.lines.specs.Program.{record_length, first_record, front, front_line};
+ghost use Rattle.lines.specs.Pieces.{is_awaited, is_over};
 
 use arrayvec::ArrayVec;
 use record_kinds::Kind;
 
-// How far a piece of the input is served: the place of the next line, and the bytes of the piece whose calls are made.
-#[derive(Clone, Copy)]
-pub struct Progress {
-    pub place: u64,
+// A record that is served: its line, and how many bytes of the input it has.
+#[derive(Drop)]
+pub struct ServedRecord {
+    pub line: ArrayVec<u8, 126>,
     pub taken: usize,
 }
 
@@ -64,43 +63,18 @@ pub fn is_over(count: usize, rest: &[u8]) -> bool
     count == 0 || !is_awaited(rest)
 }
 
-// Makes the call of one record and puts its line.
-fn serve_record<const CAP: usize>(
-    book: &mut [u8],
-    bytes: &[u8],
-    lines: &mut ArrayVec<u8, CAP>,
-    place: u64,
-)
-    requires { (0 < length bytes.now) × (length lines.old.items + 126 ≤ CAP) }
-    ensures book_after { book.new ≡ call_book book.old bytes.now }
-    ensures lines_after { lines.new.items ≡ lines.old.items ++ line_of place (get_or bytes.now 0 0) (call_answer book.old bytes.now) }
-    ensures length_bound { length lines.new.items ≤ length lines.old.items + 126 }
+// Serves the first record of an input: makes its call with the book, and answers its line and how many bytes it has. Where no whole
+// record of a known kind stands at the front, there is no call, and the book stays as it is.
+pub fn serve_first(book: &mut [u8], input: &[u8], place: u64) -> Option<ServedRecord>
+    ensures some { IfSome result (λ s. (0 < first_record input.now) × (s.taken ≡ first_record input.now) × (s.taken ≤ length input.now) × (s.line.items ≡ front_line book.old place input.now) × (book.new ≡ call_book book.old (front input.now))) }
+    ensures none { IfNone result ((first_record input.now ≡ 0) × (book.new ≡ book.old)) }
 {
+    let taken = first_record(input)?;
+    let record = &input[..taken];
     let mut answer = [0u64; 4];
-    engine::engine_call(book, bytes, &mut answer);
-    line_text::put_line(lines, place, bytes[0], &answer);
-}
-
-// Serves the whole records at the front of a piece. A record has a byte or more, and a line at most 126: six numbers of up to 20
-// digits, with a byte after each.
-pub fn serve<const CAP: usize>(
-    book: &mut [u8],
-    piece: &[u8],
-    lines: &mut ArrayVec<u8, CAP>,
-    place: u64,
-) -> Progress
-    requires { (place + length piece.now < 18446744073709551616) × (length lines.old.items + 126 * length piece.now ≤ CAP) }
-    ensures serves { Serves book.old lines.old.items place piece.now book.new lines.new.items result.place result.taken }
-    ensures value { (0 ≡ first_record (drop result.taken piece.now)) × (result.taken ≤ length piece.now) × (result.place ≤ place + result.taken) × (length lines.new.items ≤ length lines.old.items + 126 * result.taken) }
-{
-    let mut p = Progress { place, taken: 0 };
-    while let Some(n) = first_record(&piece[p.taken..]) {
-        let end = p.taken + n;
-        serve_record(book, &piece[p.taken..end], lines, p.place);
-        p.place += 1;
-        p.taken = end;
-    }
-    p
+    engine::engine_call(book, record, &mut answer);
+    let line = line_text::line_of(place, record[0], &answer);
+    Some(ServedRecord { line, taken })
 }
 
 // Moves the bytes between two places to the front; answers how many they are.

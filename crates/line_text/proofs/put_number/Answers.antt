@@ -7,8 +7,8 @@ use Rattle.line_text.proofs.Numerals.{decimal_numeral}
 use Rattle.line_text.proofs.put_number.Goals as goal
 
 pub returns-clause-text_after : goal.returns-clause-text_after
-returns-clause-text_after g c =
+returns-clause-text_after c =
     let made = c.decimal-count in
     let text : take made.result made.new.out ≡ numeral c.args.number = made.ensures.digits ∙ decimal_numeral c.args.number made.result made.ensures.len in
-    let put : c.try_extend_from_slice.new.self.items ≡ c.args.text.now.items ++ numeral c.args.number = grind (arith, common_steps) in
-    c.push.ensures.items ∙ ap (λ (z : List ℕ). z ++ (c.args.after ∷ [])) put ∙ append_assoc c.args.text.now.items (numeral c.args.number) (c.args.after ∷ [])
+    let put : c.try_extend_from_slice.new.self.items ≡ c.args.line.now.items ++ numeral c.args.number = grind (arith, common_steps) in
+    c.push.ensures.items ∙ ap (λ (z : List ℕ). z ++ (c.args.after ∷ [])) put ∙ append_assoc c.args.line.now.items (numeral c.args.number) (c.args.after ∷ [])
