@@ -77,6 +77,7 @@ impl Desk {
         ensures place_bound { self.new.place ≤ self.old.place + 512 }
     {
         self.lines.clear();
+        // No `for`: how far each turn goes is what it finds.
         while let Some(served) = lines::serve_first(&mut self.book, self.input.held(), self.place) {
             self.lines.try_extend_from_slice(&served.line).unwrap();
             self.place += 1;
