@@ -78,11 +78,7 @@ fn is_holiday(n: u64, leap: u64, k: usize) -> bool
     requires { (n ≤ 366) × (leap ≤ 1) × (k < 400) }
     ensures { result ≡ holiday leap (easter (2002 + k)) n }
 {
-    n == 1
-        || n == 121 + leap
-        || n == 359 + leap
-        || n == 360 + leap
-        || is_easter_holiday(n, k)
+    n == 1 || n == 121 + leap || n == 359 + leap || n == 360 + leap || is_easter_holiday(n, k)
 }
 
 // Is a day open? No day after the last one is.
