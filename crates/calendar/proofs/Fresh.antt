@@ -75,11 +75,14 @@ walked_starts today n = record {
 }
 
 module _ {today day a : ℕ} {days : List ℕ} (w : Walked today day a days) where
+  same : 0 < day → day - 1 + 1 ≡ day
+  same l = omega arith
+
   -- a closed day changes nothing
-  pub walked_shut : 0 < day → open_day day ≡ false → Walked today (day - 1) a days
+  pub walked_shut : 0 < day → open_day (day - 1 + 1) ≡ false → Walked today (day - 1) a days
   walked_shut l e = record {
     within = omega (arith, w.within);
-    reached = w.reached ∙ sym (age_shut (day - 1) day today (omega arith) w.within e);
+    reached = w.reached ∙ sym (age_shut (day - 1) day today (omega arith) w.within (rw (same l) at e));
     known = w.known;
     unset = w.unset;
   }
@@ -93,8 +96,8 @@ module _ {today day a : ℕ} {days : List ℕ} (w : Walked today day a days) whe
         lt-leb (age quote today) a (omega (arith, w.reached, age_falls quote (day - 1) today earlier, age_open (day - 1) day today (omega arith) w.within e)) ∙ sym (lt-leb day quote (lt_of_not-le n))
   ]
 
-  pub walked_open : 0 < day → a < length days → open_day day ≡ true → Walked today (day - 1) (a + 1) (set days a day)
-  walked_open l m e = record {
+  opened : 0 < day → a < length days → open_day day ≡ true → Walked today (day - 1) (a + 1) (set days a day)
+  opened l m e = record {
     within = omega (arith, w.within);
     reached = omega (arith, w.reached, age_open (day - 1) day today (omega arith) w.within e);
     known = λ g quote h. ⊎_elim
@@ -103,6 +106,9 @@ module _ {today day a : ℕ} {days : List ℕ} (w : Walked today day a days) whe
         (eq-or-lt_of_le (le_of_suc-le-suc (omega arith)));
     unset = λ g h. rw (get_or-set_other days a g day 0 (λ (q : g ≡ a). omega arith)) (w.unset g (omega arith));
   }
+
+  pub walked_open : 0 < day → a < length days → open_day (day - 1 + 1) ≡ true → Walked today (day - 1) (a + 1) (set days a (day - 1 + 1))
+  walked_open l m e = rw (same l) (opened l m (rw (same l) at e))
 
   -- no day is left: what has no day yet takes all prices
   pub walked_all : (from most : ℕ) → day ≤ from → FreshDays from today most days

@@ -102,6 +102,10 @@ start_end = omega (arith, start_closed 400)
 pub year_small : (d k : ℕ) → d ≤ 146096 → start_of k ≤ d → k ≤ 399
 year_small d k h b = le_of_suc-le-suc (lt_of_not-le (λ (m : 400 ≤ k). omega (arith, start_end, start_mono 400 k m)))
 
+-- by the mean length of a year no year is reached before it begins
+pub quotient_begun : (d : ℕ) → start_of (400 * d / 146097) ≤ d
+quotient_begun d = omega (arith, start_closed (400 * d / 146097))
+
 -- the day is in its year
 pub year_begun : (d : ℕ) → start_of (year_of d) ≤ d
 unfolding year_of start_of

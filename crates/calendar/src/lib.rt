@@ -6,7 +6,7 @@ ghost use Rattle.std.specs.Prelude.{◌≡◌, ◌+◌, ◌≤◌, ◌<◌};
 ghost use Rattle.answers.specs.Refusals.{coded};
 ghost use Rattle.calendar.specs.Answers.{is_open_answer, next_open_day_answer, age_answer};
 ghost use Rattle.calendar.specs.Outcome.{as_number};
-ghost use Rattle.calendar.specs.Gregorian.{start_of, year_of};
+ghost use Rattle.calendar.specs.Gregorian.{start_of};
 ghost use Rattle.calendar.specs.Easter.{easter};
 ghost use Rattle.calendar.specs.Fresh.{FreshDays};
 ghost use Rattle.calendar.specs.Target.{easter_holiday, holiday, open_day, next_open_day, age};
@@ -28,16 +28,6 @@ fn start_of(k: u64) -> u64
     365 * k + y / 4 + y / 400 - y / 100 - 485
 }
 
-// The year of a day, counted from 2002.
-fn year_of(day: u64) -> u64
-    requires { day ≤ 146096 }
-    ensures { result ≡ year_of day }
-{
-    let k = day / 366;
-    let next = start_of(k + 1);
-    if next <= day { k + 1 } else { k }
-}
-
 // A day by its year, counted from 2002, with the leap days of that year and the day's number in it, from 1.
 #[derive(Clone, Copy)]
 pub struct YearDay {
@@ -46,17 +36,27 @@ pub struct YearDay {
     pub day: u64,
 }
 
+// 400 years have 146,097 days, so the quotient is the year or, at most in its first days, the one before.
 fn year_day(day: u64) -> YearDay
     requires { day ≤ 146096 }
     ensures { result ≡ year_day day }
 {
-    let k = year_of(day);
-    let start = start_of(k);
+    let k = 400 * day / 146097;
     let next = start_of(k + 1);
-    YearDay {
-        year: k,
-        leap: next - start - 365,
-        day: day - start + 1,
+    if next <= day {
+        let after = start_of(k + 2);
+        YearDay {
+            year: k + 1,
+            leap: after - next - 365,
+            day: day - next + 1,
+        }
+    } else {
+        let start = start_of(k);
+        YearDay {
+            year: k,
+            leap: next - start - 365,
+            day: day - start + 1,
+        }
     }
 }
 
@@ -73,20 +73,19 @@ fn is_easter_holiday(n: u64, k: usize) -> bool
     n + 2 == e || n == e + 1
 }
 
-// Is the day n of the year 2002 + k, which has so many leap days, a holiday?
+// Is the day n of the year 2002 + k, which has so many leap days, a holiday? 1 January, 1 May, 25 and 26 December, then Easter's.
 fn is_holiday(n: u64, leap: u64, k: usize) -> bool
     requires { (n ≤ 366) × (leap ≤ 1) × (k < 400) }
     ensures { result ≡ holiday leap (easter (2002 + k)) n }
 {
-    is_easter_holiday(n, k) || [1, 121 + leap, 359 + leap, 360 + leap].contains(&n)
+    n == 1 || n == 121 + leap || n == 359 + leap || n == 360 + leap || is_easter_holiday(n, k)
 }
 
 // Is a day open? No day after the last one is.
 pub fn is_open(day: u64) -> bool
     ensures { result ≡ open_day day }
 {
-    let weekday = day % 7;
-    if LAST_DAY < day || weekday == 4 || weekday == 5 {
+    if LAST_DAY < day || matches!(day % 7, 4 | 5) {
         return false;
     }
     let d = year_day(day);

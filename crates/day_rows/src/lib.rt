@@ -2,9 +2,8 @@
 // A row is tested and dropped in one walk: no test reads what the rows before it have lost.
 #![tactic(auto)]
 
-ghost use Rattle.std.specs.Prelude.{◌≡◌, true, ◌<◌, length};
+ghost use Rattle.std.specs.Prelude.{◌≡◌, true, ◌<◌};
 ghost use Rattle.laws.specs.Search.{count};
-ghost use Rattle.book.specs.Layout.{book_length};
 ghost use Rattle.book.specs.State.{state, clear_row};
 ghost use Rattle.rules.specs.DayChange.{row_dropped, rows_dropped, is_done, is_reached, is_closed_fop, is_exposure_closed, is_closed_return};
 ghost use Rattle.rules.specs.Sound.{sound};
@@ -13,9 +12,10 @@ ghost use Rattle.book.specs.Tables.{numbers_of};
 ghost use Rattle.day_rows.specs.Parts.{tried, drops, ReturnNamed};
 
 use book::Book;
-use book::layout::{REQUEST_TABLES, Table};
+use book::layout::Table;
+use record_kinds::Kind;
 
-// The passes that drop rows.
+// The passes that drop rows. A closure in its place would name the same three definitions in its contract.
 #[derive(Clone, Copy)]
 pub enum Pass {
     Done,
@@ -61,7 +61,7 @@ fn is_closed_fop(book: &Book, i: usize) -> bool
     if !is_reached(book, book::get(book, Table::Closings, i)) {
         return false;
     }
-    if book::get(book, Table::RequestKinds, i) != 6 {
+    if book::get(book, Table::RequestKinds, i) != Kind::Fop as u64 {
         return false;
     }
     if book::get(book, Table::Partners, i) == 0 {
@@ -86,7 +86,7 @@ fn is_closed_return(book: &Book, i: usize) -> bool
     requires { (i < 256) × ReturnNamed (state book.now) i }
     ensures { result ≡ is_closed_return (state book.now) i }
 {
-    if book::get(book, Table::RequestKinds, i) != 7 {
+    if book::get(book, Table::RequestKinds, i) != Kind::Return as u64 {
         return false;
     }
     if book::get(book, Table::Numbers, i) == 0 {
@@ -117,6 +117,28 @@ pub fn clear(book: &mut Book, tables: &[Table], i: usize)
     }
 }
 
+// Makes a request row hold nothing. Table by table: with a list of them each write would look up its table.
+fn clear_request(book: &mut Book, i: usize)
+    requires { i < 256 }
+    ensures { state book.new ≡ row_dropped (state book.old) i }
+{
+    book::set(book, Table::Numbers, i, 0);
+    book::set(book, Table::RequestKinds, i, 0);
+    book::set(book, Table::Sides, i, 0);
+    book::set(book, Table::Givers, i, 0);
+    book::set(book, Table::Takers, i, 0);
+    book::set(book, Table::BasketsOrExposures, i, 0);
+    book::set(book, Table::Amounts, i, 0);
+    book::set(book, Table::Settlements, i, 0);
+    book::set(book, Table::Closings, i, 0);
+    book::set(book, Table::References, i, 0);
+    book::set(book, Table::SettledAmounts, i, 0);
+    book::set(book, Table::Partners, i, 0);
+    book::set(book, Table::PairPartials, i, 0);
+    book::set(book, Table::Cancels, i, 0);
+    book::set(book, Table::Ends, i, 0);
+}
+
 // Drops a row that is to be dropped; was it?
 fn drop_row(book: &mut Book, pass: Pass, i: usize) -> bool
     requires { (i < 256) × ReturnNamed (state book.old) i }
@@ -124,7 +146,7 @@ fn drop_row(book: &mut Book, pass: Pass, i: usize) -> bool
 {
     let dropped = is_dropped(book, pass, i);
     if dropped {
-        clear(book, &REQUEST_TABLES, i);
+        clear_request(book, i);
     }
     dropped
 }

@@ -3,7 +3,7 @@
 
 ghost use Rattle.std.specs.Prelude.{◌≡◌, ◌<◌, ◌≤◌, length};
 ghost use Rattle.baskets.specs.Fresh.{EligibilityFor};
-ghost use Rattle.book.specs.Layout.{book_length, today, exposure_baskets};
+ghost use Rattle.book.specs.Layout.{today, exposure_baskets};
 ghost use Rattle.book.specs.State.{state, columns_of};
 ghost use Rattle.rules.specs.Stock.{basket_of};
 ghost use Rattle.eligibility.specs.Fresh.{Aged, FreshBaskets, PricesOf};

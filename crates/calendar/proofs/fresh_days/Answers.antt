@@ -1,10 +1,9 @@
 -- `calendar::fresh_days` meets its contract: the ages below that of the day `before` have their first fresh day.
 -- Assumes nothing.
-use Prim.Native.Nat.{◌+◌, ◌-◌, ◌<◌}
-use mathlib.Core.Path.{◌≡◌, sym, ◌∙◌}
+use mathlib.Core.Path.{sym, ◌∙◌}
 use native.Mathlib.Omega.{arith}
 use borrow.Author.Rules.{rules}
-use lib.ListN.{length, length-set}
+use lib.ListN.{length-set}
 use Rattle.calendar.proofs.Fresh.{walked_starts, walked_shut, walked_open, walked_all, walked_most}
 use Rattle.calendar.proofs.fresh_days.Goals as goal
 
@@ -17,18 +16,12 @@ returns-then-most-age c = walked_most c.loop-before.invariant.2 c.args.from c.ar
 pub loop-before-preserved-then-is_open : goal.loop-before-preserved-then-is_open
 loop-before-preserved-then-is_open c =
     let i = c.loop-before.invariant in
-    let later : 0 < c.loop-before.before = omega arith in
-    let fits : c.loop-before.age < length c.loop-before.days = omega arith in
-    let day : c.loop-before.before - 1 + 1 ≡ c.loop-before.before = omega arith in
-    let is-open = rw day at (sym c.is_open.ensures ∙ c.if-is_open.true) in
-    (omega arith, simp length-set i.1, rw day (walked_open i.2 later fits is-open))
+    (omega arith, simp length-set i.1, walked_open i.2 (omega arith) (omega arith) (sym c.is_open.ensures ∙ c.if-is_open.true))
 
 pub loop-before-preserved : goal.loop-before-preserved
 loop-before-preserved c =
     let i = c.loop-before.invariant in
-    let later : 0 < c.loop-before.before = omega arith in
-    let day : c.loop-before.before - 1 + 1 ≡ c.loop-before.before = omega arith in
-    (i.0, i.1, walked_shut i.2 later (rw day at (sym c.is_open.ensures ∙ c.if-is_open.false)))
+    (i.0, i.1, walked_shut i.2 (omega arith) (sym c.is_open.ensures ∙ c.if-is_open.false))
 
 pub returns : goal.returns
 returns c = walked_all c.loop-before.invariant.2 c.args.from c.args.most c.loop-before-test.false

@@ -1,10 +1,12 @@
 -- `calendar::is_holiday` meets its contract.
 -- Assumes nothing.
-use Rattle.calendar.proofs.Holidays.{at_easter, not_at_easter}
+use borrow.Author.Rules.{rules}
+use borrow.Author.Tests.{tests}
+use Rattle.calendar.proofs.Holidays.{holiday_by_number}
 use Rattle.calendar.proofs.is_holiday.Goals as goal
 
-pub returns-then-is_easter_holiday : goal.returns-then-is_easter_holiday
-returns-then-is_easter_holiday c = at_easter _ _ _ c.is_easter_holiday.ensures c.if-is_easter_holiday.true
+pub returns-then-n-leap-3 : goal.returns-then-n-leap-3
+returns-then-n-leap-3 c = search (rules, tests, holiday_by_number)
 
-pub returns-else-is_easter_holiday : goal.returns-else-is_easter_holiday
-returns-else-is_easter_holiday c = not_at_easter _ _ _ c.is_easter_holiday.ensures c.if-is_easter_holiday.false c.contains.ensures.value
+pub returns-else-n-leap-3 : goal.returns-else-n-leap-3
+returns-else-n-leap-3 c = search (rules, tests, holiday_by_number)
