@@ -1,2 +1,2 @@
-pub mod Earliest
+pub mod LeastBy
 pub mod Nowhere

@@ -1,11 +1,10 @@
 -- What is looked for in the request rows: free ones, an equal request, one that a cancel may name.
 -- Assumes nothing.
-use Rattle.std.specs.Prelude.{Bool, ◌&&◌, ◌||◌, cond, List, ℕ, ◌+◌, eqb, ltb}
+use Rattle.std.specs.Prelude.{Bool, ◌&&◌, ◌||◌, List, ℕ, ◌+◌, eqb}
 use Rattle.laws.specs.Search.{count, least}
 use Rattle.book.specs.Layout.{numbers, request_kinds, sides, givers, takers, baskets_or_exposures, amounts, settlements, closings, ends}
 use Rattle.book.specs.State.{State}
 use Rattle.rules.specs.Requests.{is_whole}
-use Rattle.rules.specs.Requesting.{is_equal}
 use Rattle.rules.specs.Fields.{side_in, giver_in, taker_in, basket_or_exposure_in, amount_in, settlement_in, closing_in}
 
 -- how many request rows are not used
@@ -22,10 +21,6 @@ abbrev pub other_side : State → ℕ → List ℕ → ℕ → Bool
 other_side s k r i =
     eqb (s sides i + side_in r) 1
     && (eqb (s request_kinds i) k && (eqb (s givers i) (giver_in r) && (eqb (s takers i) (taker_in r) && same_terms s k r i)))
-
--- the earlier of the best row so far, 256 where there is none, and the row i
-unfoldable pub earlier_of : State → ℕ → List ℕ → ℕ → ℕ → ℕ
-earlier_of s k r best i = cond (is_equal s k r i && (eqb best 256 || ltb (s numbers i) (s numbers best))) i best
 
 -- a used row that has not ended, or has settled whole: live or settled whole
 abbrev pub open_or_whole : State → ℕ → Bool

@@ -2,9 +2,7 @@
 // It takes fields and asks `RequestIn` of them; a `Record` would ask its callers for more.
 #![tactic(auto)]
 
-ghost use Rattle.std.specs.Prelude.{◌≡◌, not, ◌&&◌, ◌<◌, ◌≤◌, eqb, MatchOption};
-ghost use Rattle.std.specs.Bool.{⊤};
-ghost use Rattle.std.specs.Option.{unwrap_or};
+ghost use Rattle.std.specs.Prelude.{◌≡◌, not, ◌&&◌, ◌<◌, ◌≤◌, eqb};
 ghost use Rattle.laws.specs.Search.{least};
 ghost use Rattle.laws.specs.Found.{found};
 ghost use Rattle.book.specs.Layout.{rows_of};
@@ -14,7 +12,7 @@ ghost use Rattle.rules.specs.Requests.{is_live, is_paired, is_owner, accepts_giv
 ghost use Rattle.rules.specs.Requesting.{taker_follows, is_equal, earliest_equal, exposure_of, is_own_request, own_request};
 ghost use Rattle.rules.specs.Fields.{closing_in};
 ghost use Rattle.request_search.specs.Ranges.{RequestIn};
-ghost use Rattle.request_search.specs.Rows.{rows_free, same_terms, other_side, earlier_of, open_or_whole, first_empty};
+ghost use Rattle.request_search.specs.Rows.{rows_free, same_terms, other_side, open_or_whole, first_empty};
 
 use book::Book;
 use book::layout::Table;
@@ -95,31 +93,14 @@ fn is_equal(book: &Book, kind: u64, fields: &Fields, i: usize) -> bool
     is_other_side(book, kind, fields, i) && is_waiting(book, i)
 }
 
-// The earlier of the best row so far and the row i, where the record may pair with that.
-fn earlier(book: &Book, kind: u64, fields: &Fields, best: Option<usize>, i: usize) -> Option<usize>
-    requires { RequestIn fields.now × MatchOption best ⊤ (λ b. b < 256) × (i < 256) }
-    ensures { result ≡ found 256 (earlier_of (state book.now) kind fields.now (unwrap_or best 256) i) }
-{
-    if !is_equal(book, kind, fields, i) {
-        return best;
-    }
-    match best {
-        Some(b) if book::get(book, Table::Numbers, b) <= book::get(book, Table::Numbers, i) => best,
-        _ => Some(i),
-    }
-}
-
 // The row of the earliest request that the record may pair with: the one with the lowest number.
 pub fn earliest_equal(book: &Book, kind: u64, fields: &Fields) -> Option<usize>
     requires { RequestIn fields.now }
     ensures { result ≡ found 256 (earliest_equal (state book.now) kind fields.now) }
 {
-    // A loop, not a fold: folded, each turn compares a pair of options, and the whole search takes longer.
-    let mut best = None;
-    for i in 0..256 {
-        best = earlier(book, kind, fields, best, i);
-    }
-    best
+    (0..256)
+        .filter(|i| is_equal(book, kind, fields, *i))
+        .min_by_key(|i| book::get(book, Table::Numbers, *i))
 }
 
 // The first of a table's rows below n that holds 0.

@@ -1,22 +1,17 @@
--- `request_search::earliest_equal` meets its contract: the best is that of the rows below `i`.
+-- `request_search::earliest_equal` meets its contract.
 -- Assumes nothing.
-use mathlib.Core.Path.{◌≡◌}
-use native.Mathlib.Omega.{arith}
-use Rattle.rules.specs.Requesting.{earliest_equal}
-use Rattle.request_search.proofs.Earliest.{best_first, best_of_more, found_row}
+use borrow.Author.Rules.{rules}
+use Rattle.book.specs.Layout.{numbers}
+use Rattle.book.specs.State.{state}
+use Rattle.rules.specs.Requesting.{is_equal, earliest_equal}
+use Rattle.request_search.proofs.LeastBy.{takes_below, picks_least}
 use Rattle.request_search.proofs.earliest_equal.Goals as goal
 
-pub loop-i-init : goal.loop-i-init
-loop-i-init c = (omega arith, search best_first)
-
-pub earlier-best-requires : goal.earlier-best-requires
-earlier-best-requires c = (c.requires, found_row _ c.loop-i.invariant.1, omega arith)
-
-pub loop-i-preserved : goal.loop-i-preserved
-loop-i-preserved c = (omega arith, search best_of_more)
+pub min_by_key-requires-clause-callable : goal.min_by_key-requires-clause-callable
+min_by_key-requires-clause-callable c =
+    takes_below _ (is_equal (state c.args.book.now) c.args.kind c.args.fields.now) _ c.filter.ensures.source c.filter.ensures.closure (λ x b q k. search rules) _ (λ x q l. search rules)
 
 pub returns : goal.returns
 unfolding earliest_equal
 returns c =
-    let done : c.loop-i.i ≡ 256 = omega arith in
-    rw done at c.loop-i.invariant.1
+    picks_least _ (is_equal (state c.args.book.now) c.args.kind c.args.fields.now) _ c.filter.ensures.source c.filter.ensures.closure (λ x b q k. search rules) _ (state c.args.book.now numbers) _ c.min_by_key.ensures.ran (λ x k q h. search rules)
