@@ -1,9 +1,7 @@
 -- Document 01: "a basket's report tells how many securities it holds and the lowest of them".
 -- Assumes nothing.
-use Rattle.std.specs.Prelude.{Bool, true, false, not, ℕ, eqb, Result, Ok, Err}
-use Rattle.answers.specs.declared.Refusal.{Refusal}
+use Rattle.std.specs.Prelude.{Bool, true, false, not, ℕ, eqb}
 use Rattle.answers.specs.Answers.{out_of_range}
-use Rattle.answers.specs.Refusals.{number}
 use Rattle.laws.specs.Bits.{has_bit}
 use Rattle.laws.specs.Search.{least, count}
 use Rattle.baskets.specs.declared.Summary.{Summary}

@@ -1,8 +1,7 @@
 -- What the calendar answers a host, which may ask of any numbers: document 01's code 7 or the number.
 -- Assumes nothing.
-use Rattle.std.specs.Prelude.{Bool, ◌&&◌, ℕ, leb, Result, Ok, Err}
+use Rattle.std.specs.Prelude.{◌&&◌, ℕ, leb}
 use Rattle.answers.specs.declared.CodedValue.{CodedValue}
-use Rattle.answers.specs.declared.Refusal.{Refusal}
 use Rattle.answers.specs.Answers.{accepted_if, bad_day}
 use Rattle.calendar.specs.Gregorian.{one_if}
 use Rattle.calendar.specs.Target.{last_day, open_day, next_open_day, age}

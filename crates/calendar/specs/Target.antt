@@ -1,6 +1,6 @@
 -- Document 01, "Days": the days on which TARGET is open (ECB calendar from 2002), the next one, and the age of a price.
 -- Assumes nothing.
-use Rattle.std.specs.Prelude.{Bool, not, ◌||◌, cond, Option, Some, None, ℕ, ◌+◌, ◌-◌, ◌%◌, eqb, leb, ltb}
+use Rattle.std.specs.Prelude.{Bool, not, ◌||◌, ℕ, ◌+◌, ◌-◌, ◌%◌, eqb, ltb}
 use Rattle.laws.specs.Search.{least, count}
 use Rattle.calendar.specs.Gregorian.{year_of, day_of_year, leap_day, date_of}
 use Rattle.calendar.specs.Easter.{easter}

@@ -1,6 +1,5 @@
 -- A step on each row that passes a test: what it leaves, and a loop that tests on the way.
 -- Assumes nothing.
-use mir.Val.{bool_byte}
 use mathlib.Core.Path.{◌≡◌, refl, sym, ap, ◌∙◌}
 use mathlib.Core.Bool.{Bool, true, false, cond}
 use mathlib.Core.Logic.{⊎_elim}

@@ -1,17 +1,14 @@
 -- The code and the step of a record by its kind.
 -- Assumes nothing.
-use mathlib.Core.Path.{◌≡◌, refl, sym, ◌∙◌}
-use mathlib.Core.Bool.{true, false}
+use mathlib.Core.Path.{◌≡◌, refl}
+use mathlib.Core.Bool.{true}
 use mathlib.Core.List.{List}
 use Prim.Native.Nat.{ℕ, zero, suc, ◌+◌, ◌*◌, ◌<◌}
 use mathlib.Core.Logic.{◌⊎◌, inl, inr}
-use native.Mathlib.Decide.{dec_lt}
 use native.Mathlib.Omega.{arith}
-use lib.Dec.{eqb}
 use lib.ListN.{get_or}
-use borrow.Author.Tests.{ltb-false, eqb-false}
+use borrow.Author.Tests.{ltb-false}
 use Rattle.book.specs.Layout.{accounts}
-use Rattle.records.specs.Writing.{are_legal}
 use Rattle.book.specs.State.{State, state}
 use Rattle.rules.specs.Call.{steps_of, step_of}
 use Rattle.rules.specs.Codes.{deposit_rules, withdrawal_rules, rules_of, unknown_kind, code_of}

@@ -9,9 +9,8 @@ use native.Mathlib.Omega.{arith}
 use lib.Dec.{eqb}
 use lib.ListN.{length, get_or}
 use borrow.Author.Tests.{ne_eqb, eqb-true, not-false}
-use Rattle.std.specs.Prelude.{Result, Ok, Err}
 use Rattle.answers.specs.declared.Refusal.{Refusal}
-use Rattle.answers.specs.Refusals.{number, outcome_code}
+use Rattle.answers.specs.Refusals.{number}
 use Rattle.answers.proofs.Refusals.{number_some as some_code}
 use Rattle.laws.proofs.Cases.{either, and_right}
 use Rattle.book.specs.State.{state}
@@ -24,13 +23,12 @@ use Rattle.records.specs.declared.Reading as declared
 use Rattle.records.proofs.Readings.{reading_taken}
 use Rattle.rules.specs.Call.{step_of, record_code, opens, call_code, call_answer, call_book}
 use Rattle.rules.specs.Codes.{code_of}
-use Rattle.rules.specs.Outcome.{Answer, answer}
+use Rattle.rules.specs.Outcome.{answer}
 use Rattle.rules.specs.Sound.{sound}
 use Rattle.totals.specs.Totals.{totals_of}
 use Rattle.totals.specs.declared.Totals as totals
 use Rattle.damage.specs.Damage.{book_damage}
 use Rattle.damage.proofs.Damage.{Passed, passes, damaged_code, passed_code}
-use Rattle.engine.specs.Outcome.{answer_of}
 use Rattle.engine.specs.Accepted.{Taken, Accepted}
 
 -- a refusal: the code in the answer, and the book as it was

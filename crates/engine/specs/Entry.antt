@@ -1,10 +1,7 @@
 -- The exported call: the lent answer, and the outcome that it tells.
 -- Assumes nothing.
-use Rattle.std.specs.Prelude.{List, [], ◌∷◌, ℕ, Result, Ok, Err}
-use Rattle.answers.specs.declared.Refusal.{Refusal}
-use Rattle.answers.specs.Refusals.{number}
-use Rattle.rules.specs.Outcome.{Answer, answer}
-use Rattle.totals.specs.declared.Totals.{Totals}
+use Rattle.std.specs.Prelude.{List, [], ◌∷◌, ℕ}
+use Rattle.rules.specs.Outcome.{Answer}
 
 -- "The answer is code, A, B, M."
 abbrev pub numbers_of : Answer → List ℕ

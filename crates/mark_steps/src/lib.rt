@@ -1,4 +1,5 @@
 // One exposure's part in each pass of a mark: its ineligible bonds go back, then those it does not need; what is missing is searched for.
+// Three functions, no one over a rule: they differ in what they read, in what they move and in what they tell.
 #![tactic(auto)]
 
 ghost use Rattle.std.specs.Prelude.{◌≡◌, ◌<◌, eqb};

@@ -1,6 +1,6 @@
 -- Document 01, "Steps": Pick amount X from a giver's account. The outcome "holds one nominal for each of the 64 securities".
 -- Assumes nothing.
-use Rattle.std.specs.Prelude.{Bool, not, ◌&&◌, cond, List, Option, Some, None, ℕ, zero, suc, ◌+◌, ◌-◌, min, eqb, get_or, set, replicate}
+use Rattle.std.specs.Prelude.{Bool, not, ◌&&◌, cond, List, ℕ, zero, suc, ◌+◌, ◌-◌, min, eqb, get_or, set, replicate}
 use Rattle.securities.specs.Security.{security_at}
 use Rattle.parcels.specs.Lots.{no_parcel, parcel_to_pick}
 use Rattle.picking.specs.declared.Outcome.{Outcome}

@@ -1,10 +1,8 @@
 -- What picking answers a host, which may lend any numbers: 4 for a number out of its range, 7 for a day that is not open.
 -- Assumes nothing.
-use Rattle.std.specs.Prelude.{Bool, not, ◌&&◌, cond, List, ℕ, leb, eqb, replicate, Result, Ok, Err}
+use Rattle.std.specs.Prelude.{Bool, not, ◌&&◌, cond, List, ℕ, leb, eqb, replicate}
 use Rattle.limits.specs.Limits.{greatest_exposure}
 use Rattle.answers.specs.Answers.{out_of_range, bad_day}
-use Rattle.answers.specs.Refusals.{number}
-use Rattle.answers.specs.declared.Refusal.{Refusal}
 use Rattle.baskets.specs.Basket.{eligible}
 use Rattle.baskets.specs.declared.Basket.{Basket}
 use Rattle.calendar.specs.Target.{open_day}
@@ -12,8 +10,6 @@ use Rattle.securities.specs.Position.{legal_nominals}
 use Rattle.securities.specs.Security.{legal_securities, legal_quotes}
 use Rattle.picking.specs.Free.{freed}
 use Rattle.picking.specs.Pick.{nothing, picked}
-use Rattle.picking.specs.declared.Freed.{Freed}
-use Rattle.picking.specs.declared.Outcome.{Outcome}
 use Rattle.picking_calls.specs.declared.FreeAnswer as free
 use Rattle.picking_calls.specs.declared.PickAnswer as pick
 

@@ -11,7 +11,6 @@ use lib.Dec.{eqb}
 use borrow.Author.Tests.{ne_eqb, not-false}
 use Rattle.std.specs.Prelude.{Result, Ok, Err, IfOk, Option, Some, None}
 use Rattle.answers.specs.declared.Refusal.{Refusal}
-use Rattle.answers.specs.declared.Refusal.TheVariants.{BookLength, UnsoundBook, Malformed, OutOfRange, NotSetUp, SetUpAgain, BadDay, SameParty, Automatic, TooMuch, TooLarge, NoneSuch, Settled, NoRow, NoExposure, NotCovered}
 use Rattle.answers.specs.Refusals.{number, outcome_code}
 use Rattle.book.specs.State.{state}
 use Rattle.rules.specs.Outcome.{rule, lowest}

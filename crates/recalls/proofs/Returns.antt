@@ -5,11 +5,8 @@ use mathlib.Core.Bool.{Bool, true, false, not, cond, and-false}
 use mathlib.Core.List.{List}
 use mathlib.Core.Logic.{⊎_elim}
 use Prim.Native.Nat.{ℕ, ◌+◌, ◌*◌, ◌%◌, ◌≤◌, ◌<◌}
-use native.Mathlib.Omega.{arith}
 use lib.ListN.{length, get_or, take, drop}
 use borrow.Author.Tests.{eq-eqb, ne_eqb, lt-ltb, le-ltb}
-use Rattle.answers.specs.Refusals.{number}
-use Rattle.answers.specs.declared.Refusal.{Refusal}
 use Rattle.laws.proofs.Cases.{either}
 use Rattle.picking.specs.declared.Outcome.{Outcome}
 use Rattle.book.specs.Layout.{book_length, lots, modes, in_use, exposure_givers, positions}
@@ -34,7 +31,6 @@ use Rattle.marking_laws.proofs.Ranges.{RecallIn, recall_in}
 use Rattle.substitution.specs.Recalling.{Recalling}
 use Rattle.substitution.proofs.Accepting.{facts_of, ranges_of, exposure_in, good_in}
 use Rattle.recalls.specs.Codes.{names_code, holds_code}
-use Rattle.answers.proofs.Refusals.{number_some as refused}
 
 -- the ranges of a recall's fields
 pub ranges : (entry : Record) → entry.kind ≡ Recall → RecallIn entry.fields

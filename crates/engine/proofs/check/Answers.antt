@@ -1,10 +1,6 @@
 -- `engine::check` meets its contract: kind by kind.
 -- Assumes nothing.
-use mathlib.Core.Path.{◌≡◌, refl, sym, ◌∙◌}
-use mathlib.Core.Logic.{inl, inr}
-use native.Mathlib.Omega.{arith}
 use Rattle.book.specs.State.{state}
-use Rattle.record_kinds.specs.declared.Kind.TheVariants.{Opening, Price, Participant, Basket, Deposit, Withdrawal, Fop, Return, Cancel, Settle, Mark, Recall, NextDay}
 use Rattle.engine.proofs.ByKind.{by_code, no_code}
 use Rattle.engine.proofs.check.Goals as goal
 

@@ -1,9 +1,8 @@
 -- `engine::outcome` meets its contract: refused by the book's length, by its soundness, by the reader, by a rule; or accepted.
 -- Assumes nothing.
-use mathlib.Core.Path.{◌≡◌, refl, sym, ap, ◌∙◌}
-use Prim.Native.Nat.{ℕ, ◌<◌}
+use mathlib.Core.Path.{refl, ap, ◌∙◌}
 use native.Mathlib.Omega.{arith}
-use lib.ListN.{length, get_or}
+use lib.ListN.{length}
 use Rattle.answers.specs.declared.Refusal.TheVariants.{BookLength}
 use Rattle.std.proofs.lemmas.Result.{err_from_is_err_and}
 use Rattle.damage.specs.Damage.{book_damage}

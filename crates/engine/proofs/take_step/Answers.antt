@@ -1,10 +1,9 @@
 -- `engine::take_step` meets its contract: kind by kind.
 -- Assumes nothing.
-use mathlib.Core.Path.{◌≡◌, refl, sym, ◌∙◌}
-use mathlib.Core.Logic.{inl, inr}
+use mathlib.Core.Path.{◌≡◌, sym, ◌∙◌}
 use native.Mathlib.Omega.{arith}
 use Rattle.book.specs.State.{state}
-use Rattle.record_kinds.specs.declared.Kind.TheVariants.{Opening, Price, Participant, Basket, Deposit, Withdrawal, Fop, Return, Cancel, Settle, Mark, Recall, NextDay}
+use Rattle.record_kinds.specs.declared.Kind.TheVariants.{Opening, Fop, Return, Cancel, Settle, Mark, Recall, NextDay}
 use Rattle.engine.proofs.ByKind.{by_totals, by_state, silent_totals, no_rule_kind, deposit_room, withdrawal_holds}
 use Rattle.engine.proofs.take_step.Goals as goal
 
