@@ -39,7 +39,7 @@ pub fn pick_for(book: &Book, prices: &Prices, e: usize, amount: u64) -> Outcome
 {
     let giver = book::get(book, Table::ExposureGivers, e) as usize;
     let account = book::row_at(book, Table::Accounts, 64 * giver);
-    let x = eligibility::eligibility_of(book, prices, e);
+    let x = eligibility::eligibility_of(book, &prices.since, e);
     picking::pick_for(&account, &prices.columns, x, amount)
 }
 

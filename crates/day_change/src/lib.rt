@@ -1,10 +1,10 @@
 // Kind 12, next day: its code, the profiles that waited, and the whole step.
 #![tactic(auto)]
 
-ghost use Rattle.std.specs.Prelude.{◌≡◌, true, ◌<◌, length};
+ghost use Rattle.std.specs.Prelude.{◌≡◌, true, ◌<◌};
 ghost use Rattle.answers.specs.Refusals.{outcome_code};
 ghost use Rattle.calendar.specs.Target.{next_open_day};
-ghost use Rattle.book.specs.Layout.{book_length, table_count, rows_of, width_of, today};
+ghost use Rattle.book.specs.Layout.{rows_of, width_of, today};
 ghost use Rattle.book.specs.Tables.{number};
 ghost use Rattle.book.specs.State.{state, put};
 ghost use Rattle.rules.specs.Codes.{next_day_rules};

@@ -1,7 +1,7 @@
 // Which securities are eligible for an exposure's basket today, read from the book.
 #![tactic(auto)]
 
-ghost use Rattle.std.specs.Prelude.{◌≡◌, ◌<◌, ◌≤◌, length};
+ghost use Rattle.std.specs.Prelude.{◌≡◌, ◌<◌, ◌≤◌};
 ghost use Rattle.baskets.specs.Fresh.{EligibilityFor};
 ghost use Rattle.book.specs.Layout.{today, exposure_baskets};
 ghost use Rattle.book.specs.State.{state, columns_of};
@@ -72,12 +72,12 @@ impl Prices {
 }
 
 // Which securities are eligible for an exposure, by the first fresh days.
-pub fn eligibility_of(book: &Book, prices: &Prices, e: usize) -> Eligibility
-    requires { (e < 64) × (state book.now exposure_baskets e < 16) × FreshBaskets (state book.now) prices.now.since }
+pub fn eligibility_of(book: &Book, since: &[u64; 16], e: usize) -> Eligibility
+    requires { (e < 64) × (state book.now exposure_baskets e < 16) × FreshBaskets (state book.now) since.now }
     ensures { EligibilityFor (basket_of (state book.now) e) (state book.now today 0) (columns_of (state book.now)) result }
 {
     let b = book::get(book, Table::ExposureBaskets, e) as usize;
     let map = book::get(book, Table::Maps, b);
-    let day = prices.since[b];
-    Eligibility { map, since: day }
+    let since = since[b];
+    Eligibility { map, since }
 }

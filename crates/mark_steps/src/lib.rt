@@ -87,7 +87,7 @@ pub fn give_ineligible(book: &mut Book, prices: &Prices, e: usize) -> bool
     if book::get(book, Table::InUse, e) != 1 {
         return false;
     }
-    let x = eligibility::eligibility_of(book, prices, e);
+    let x = eligibility::eligibility_of(book, &prices.since, e);
     if may_all_stay(book, &prices.columns, x, e) {
         return false;
     }

@@ -1,7 +1,7 @@
 // Days known to be open: a few at hand, so that most days of a book need no calendar.
 #![tactic(auto)]
 
-ghost use Rattle.std.specs.Prelude.{true, ◌≡◌, ◌<◌};
+ghost use Rattle.std.specs.Prelude.{true, ◌≡◌, ◌<◌, replicate};
 ghost use Rattle.calendar.specs.Target.{open_day};
 ghost use Rattle.rules.specs.Requests.{open_or_none};
 ghost use Rattle.open_days.specs.Days.{AreOpen};
@@ -16,13 +16,15 @@ fn slot_of(day: u64) -> usize
 // Open days at hand, each in its slot: most days of a book are one of a few.
 #[derive(Clone, Copy, Debug)]
 pub struct OpenDays {
-    days: [u64; 16],
-    ghost open: { AreOpen days },
+    pub days: [u64; 16],
+    pub ghost open: { AreOpen days },
 }
 
 impl OpenDays {
     // The first open day alone.
-    pub fn new() -> OpenDays {
+    pub fn new() -> OpenDays
+        ensures { result.days ≡ replicate 16 1 }
+    {
         OpenDays { days: [1; 16] }
     }
 
