@@ -26,11 +26,10 @@ pub goes_on : {left₀ left left' holds₀ holds holds' : Option (List ℕ)} {b 
     → Piece left left' holds holds' b held place b' held' place'
     → Between left₀ left' holds₀ holds' b' held' place'
 goes_on {left₀} {left} {left'} {holds₀} {holds} {holds'} {held = held} r p =
-    let h = p.served in
-    let s = h.serves in
+    let s = p.served in
     let on = reached_on r.reached p.got (held ++ p.got) refl in
-    let reached = rw (← s.books, ← s.takes, ← s.places, ← h.rest) at on in
-    record { input = _; written = _; reached = reached; consumed = Consumes-trans left₀ left left' _ _ r.consumed p.consumed; appended = Appends-trans holds₀ holds holds' _ _ r.appended (rw s.texts at p.appended); served = h.none }
+    let reached = rw (← s.books, ← s.places, ← s.rest) at on in
+    record { input = _; written = _; reached = reached; consumed = Consumes-trans left₀ left left' _ _ r.consumed p.consumed; appended = Appends-trans holds₀ holds holds' _ _ r.appended (rw s.texts at p.appended); served = s.none }
 
 -- a run that read all that its reader had, or all before an unknown record, has written the text of the whole input
 pub ends : (left₀ left holds₀ holds holds' : Option (List ℕ)) (b rest : List ℕ) (place : ℕ)
@@ -53,7 +52,7 @@ length_most k =
     (either (known k))
 
 -- what is held when more is to be read is no whole record
-pub short : (rest : List ℕ) (count : ℕ) → is_over count rest ≡ false → 0 ≡ first_record rest → length rest < 65
+pub short : (rest : List ℕ) (count : ℕ) → is_over (Some count) rest ≡ false → 0 ≡ first_record rest → length rest < 65
 unfolding is_over is_awaited first_record
 short rest zero h none = absurd (true≢false h)
 short [] (suc n) h none = omega arith

@@ -1,10 +1,10 @@
 -- What a run of the program has read and written, by what its reader has left and its writer holds, where these are known.
 -- Assumes nothing.
-use Rattle.std.specs.Prelude.{◌≡◌, true, [], ◌++◌, List, ℕ, drop}
+use Rattle.std.specs.Prelude.{◌≡◌, true, ◌++◌, List, ℕ, drop, Some}
 use Rattle.std.specs.declared.option.Option.{Option}
 use Rattle.std.specs.Io.KnownBytes.{Consumes, Appends, IsAtEnd}
 use Rattle.lines.specs.Program.{first_record}
-use Rattle.lines.specs.Pieces.{Serves, is_over, Reached}
+use Rattle.lines.specs.Pieces.{served_all, is_over, Reached}
 
 -- a read: the bytes that the reader gave stand behind those that were held
 pub record Gained (left₀ left : Option (List ℕ)) (held₀ held : List ℕ) : Type 0 where
@@ -14,9 +14,10 @@ pub record Gained (left₀ left : Option (List ℕ)) (held₀ held : List ℕ) :
 
 -- what is held is served: its whole records are taken from it, and no whole record is left
 pub record ServesHeld (book₀ held₀ : List ℕ) (place₀ : ℕ) (book lines held : List ℕ) (place : ℕ) : Type 0 where
-  pub taken : ℕ
-  pub serves : Serves book₀ [] place₀ held₀ book lines place taken
-  pub rest : held ≡ drop taken held₀
+  pub books : book ≡ (served_all book₀ place₀ held₀).book
+  pub texts : lines ≡ (served_all book₀ place₀ held₀).text
+  pub places : place ≡ (served_all book₀ place₀ held₀).place
+  pub rest : held ≡ drop (served_all book₀ place₀ held₀).taken held₀
   pub none : 0 ≡ first_record held
 
 -- a piece: what was held with what the reader gave behind it is served, and the writer took its lines
@@ -40,5 +41,5 @@ pub record Between (left₀ left holds₀ holds : Option (List ℕ)) (book held 
 -- nothing is to be read any more: the reader is at its end, or an unknown record is held, by what the last read gave
 pub record Over (left : Option (List ℕ)) (held : List ℕ) : Type 0 where
   pub count : ℕ
-  pub over : is_over count held ≡ true
+  pub over : is_over (Some count) held ≡ true
   pub end : count ≡ 0 → IsAtEnd left

@@ -6,7 +6,7 @@
 // tests/tests/lines.rs.
 #![tactic(auto)]
 
-ghost use Rattle.std.specs.Prelude.{◌≡◌, ◌+◌, ◌≤◌, ◌<◌, [], length, OnOk, IfOk, IfSome};
+ghost use Rattle.std.specs.Prelude.{◌≡◌, ◌+◌, ◌≤◌, ◌<◌, [], length, take, OnOk, IfOk, IfSome};
 ghost use Rattle.std.specs.Io.KnownBytes.{Appends, IsAtEnd};
 ghost use Rattle.line_text.specs.Text.{last_line};
 ghost use Rattle.lines.specs.Program.{zero_book, program_text};
@@ -14,7 +14,6 @@ ghost use Rattle.desk.specs.Streams.{ServesHeld, Piece, Between, Over};
 
 mod input;
 
-use arrayvec::ArrayVec;
 use input::Input;
 use std::fmt;
 use std::io::{Read, Write};
@@ -39,13 +38,19 @@ impl fmt::Display for Failure {
     }
 }
 
-// The book, what is held of the input, the lines that wait to be written, and the place of the next one. The lines of all bytes that are
+fn write_text<W: Write>(writer: &mut W, text: &[u8]) -> Result<(), Failure>
+    ensures { OnOk result (Appends (W.contents writer.old) (W.contents writer.new) text.now) }
+{
+    writer.write_all(text).map_err(|_| Failure::Write)
+}
+
+// The book, what is held of the input, the text of the lines of a piece, and the place of the next one. The lines of all bytes that are
 // held at once fit, so that each piece is served whole.
 #[derive(Drop)]
 struct Desk {
     book: [u8; 49152],
     input: Input,
-    lines: ArrayVec<u8, 65536>,
+    lines: [u8; 65536],
     place: u64,
 }
 
@@ -56,33 +61,28 @@ impl Desk {
         Desk {
             book: [0; 49152],
             input: Input::new(),
-            lines: ArrayVec::new(),
+            lines: [0; 65536],
             place: 1,
         }
     }
 
-    fn write_lines<W: Write>(&self, writer: &mut W) -> Result<(), Failure>
-        ensures { OnOk result (Appends (W.contents writer.old) (W.contents writer.new) self.now.lines.items) }
-    {
-        writer
-            .write_all(self.lines.as_slice())
-            .map_err(|_| Failure::Write)
-    }
-
-    // Serves the whole records that are held: makes their calls and puts their lines, in place of those that were there. These fit, since a
-    // record has a byte or more, and a line at most 126: six numbers of up to 20 digits, with a byte after each.
-    fn serve_held(&mut self)
+    // Serves the whole records that are held: makes their calls and puts their lines at the front of the text, in place of those that were
+    // there; answers how many bytes of lines there are.
+    fn serve_held(&mut self) -> usize
         requires { self.old.place + 512 < 18446744073709551616 }
-        ensures served { ServesHeld self.old.book self.old.input self.old.place self.new.book self.new.lines.items self.new.input self.new.place }
+        ensures served { ServesHeld self.old.book self.old.input self.old.place self.new.book (take result self.new.lines) self.new.input self.new.place }
         ensures place_bound { self.new.place ≤ self.old.place + 512 }
+        ensures waiting_bound { result ≤ 65536 }
     {
-        self.lines.clear();
-        // No `for`: how far each turn goes is what it finds.
-        while let Some(served) = lines::serve_first(&mut self.book, self.input.held(), self.place) {
-            self.lines.try_extend_from_slice(&served.line).unwrap();
-            self.place += 1;
-            self.input.consume(served.taken);
-        }
+        let progress = lines::serve(
+            &mut self.book,
+            self.input.held(),
+            &mut self.lines,
+            self.place,
+        );
+        self.place = progress.place;
+        self.input.consume(progress.taken);
+        progress.waiting
     }
 
     // Reads a piece behind what is left of the last one, serves it and writes its lines; answers how many bytes were read.
@@ -97,8 +97,8 @@ impl Desk {
         ensures end { IfOk result (λ n. n ≡ 0 → length self.old.input < 512 → IsAtEnd (R.remaining reader.new)) }
     {
         let count = self.input.read_more(reader).map_err(|_| Failure::Read)?;
-        self.serve_held();
-        self.write_lines(writer)?;
+        let waiting = self.serve_held();
+        write_text(writer, &self.lines[..waiting])?;
         Ok(count)
     }
 
@@ -110,7 +110,7 @@ impl Desk {
     {
         for _turn in 0..READS {
             let count = self.serve_piece(reader, writer)?;
-            if lines::is_over(count, self.input.held()) {
+            if lines::is_over(Some(count), self.input.held()) {
                 return Ok(());
             }
         }
@@ -122,7 +122,7 @@ impl Desk {
         ensures { OnOk result (Appends (W.contents writer.old) (W.contents writer.new) (last_line self.old.place self.old.input)) }
     {
         let line = line_text::last_line(self.place, self.input.held());
-        writer.write_all(&line).map_err(|_| Failure::Write)
+        write_text(writer, &line)
     }
 }
 

@@ -11,6 +11,7 @@ use lib.Dec.{leb, ltb}
 use lib.ListN.{length, get_or, take, drop, length-append, length-drop, replicate, get_or-append}
 use lib.Seq.{take-append-le, drop-append-le, drop-drop}
 use borrow.Author.Tests.{ltb-true, ltb-false, lt-ltb, le-ltb, le-leb, leb-true}
+use Rattle.std.specs.Prelude.{Some}
 use Rattle.laws.proofs.Cases.{either}
 use Rattle.rules.specs.Call.{call_book}
 use Rattle.line_text.specs.Text.{last_line}
@@ -121,7 +122,7 @@ module _ {input written b held : List ℕ} {place : ℕ} (r : Reached input writ
       }
 
   -- the last line is all that is missing where the input is at its end or goes on with an unknown record
-  pub reached_ends : (count : ℕ) → 0 ≡ first_record held → is_over count held ≡ true → (later : List ℕ) → (count ≡ 0 → later ≡ []) → written ++ last_line place held ≡ program_text (input ++ later)
+  pub reached_ends : (count : ℕ) → 0 ≡ first_record held → is_over (Some count) held ≡ true → (later : List ℕ) → (count ≡ 0 → later ≡ []) → written ++ last_line place held ≡ program_text (input ++ later)
   unfolding is_over
   reached_ends zero none h later over =
       ap (λ (z : List ℕ). written ++ z) (sym (text_ends b held place none) ∙ ap (text_of b place) (sym (append-nil held) ∙ ap (λ (z : List ℕ). held ++ z) (sym (over refl))))

@@ -2,14 +2,23 @@
 // and the text of a line for each.
 #![tactic(auto)]
 
-ghost use Rattle.std.specs.Prelude.{◌≡◌, ◌+◌, ◌≤◌, ◌<◌, pos, length, take, drop, IfSome, IfNone};
+ghost use Rattle.std.specs.Prelude.{◌≡◌, ◌+◌, ◌*◌, ◌≤◌, ◌<◌, pos, length, take, drop, IfSome, IfNone};
 ghost use Rattle.std.specs.Int.Signed.{lt_z};
 ghost use Rattle.rules.specs.Call.{call_book};
 ghost use Rattle.lines.specs.Program.{record_length, first_record, front, front_line};
-ghost use Rattle.lines.specs.Pieces.{is_awaited, is_over};
+ghost use Rattle.lines.specs.Pieces.{Serves, is_awaited, is_over};
 
 use arrayvec::ArrayVec;
 use record_kinds::Kind;
+
+// How far a piece of the input is served: the place of the next line, the bytes of the piece whose calls are made, and the bytes
+// of lines that are put.
+#[derive(Clone, Copy)]
+pub struct Progress {
+    pub place: u64,
+    pub taken: usize,
+    pub waiting: usize,
+}
 
 // A record that is served: its line, and how many bytes of the input it has.
 #[derive(Drop)]
@@ -56,11 +65,16 @@ pub fn is_failure(got: isize) -> bool
     got < 0
 }
 
-// Is nothing to be read any more, after a read that gave `count` bytes, with what is left behind the whole records?
-pub fn is_over(count: usize, rest: &[u8]) -> bool
-    ensures { result ≡ is_over count rest.now }
+// Is nothing to be read any more, after a read that failed (`None`) or gave some bytes, with what is left behind the whole records?
+#[tactic(auto, unfolding(crate::specs::Pieces::is_over))]
+pub fn is_over(read: Option<usize>, rest: &[u8]) -> bool
+    ensures { result ≡ is_over read rest.now }
 {
-    count == 0 || !is_awaited(rest)
+    match read {
+        None => false,
+        Some(0) => true,
+        Some(_) => !is_awaited(rest),
+    }
 }
 
 // Serves the first record of an input: makes its call with the book, and answers its line and how many bytes it has. Where no whole
@@ -75,6 +89,29 @@ pub fn serve_first(book: &mut [u8], input: &[u8], place: u64) -> Option<ServedRe
     engine::engine_call(book, record, &mut answer);
     let line = line_text::line_of(place, record[0], &answer);
     Some(ServedRecord { line, taken })
+}
+
+// Serves the whole records at the front of a piece. A record has a byte or more, and a line at most 126: six numbers of up to 20
+// digits, with a byte after each. The lines go into lent bytes, since an `ArrayVec` would ask more of the callers. No `for`: how far
+// each turn goes is what it finds.
+pub fn serve(book: &mut [u8], piece: &[u8], lines: &mut [u8], place: u64) -> Progress
+    requires { (place + length piece.now < 18446744073709551616) × (126 * length piece.now ≤ length lines.old) }
+    ensures serves { Serves book.old lines.old place piece.now book.new lines.new result.place result.taken result.waiting }
+    ensures value { (0 ≡ first_record (drop result.taken piece.now)) × (result.taken ≤ length piece.now) × (result.place ≤ place + result.taken) × (result.waiting ≤ length lines.old) }
+{
+    let mut p = Progress {
+        place,
+        taken: 0,
+        waiting: 0,
+    };
+    while let Some(served) = serve_first(book, &piece[p.taken..], p.place) {
+        let end = p.waiting + served.line.len();
+        lines[p.waiting..end].copy_from_slice(&served.line);
+        p.place += 1;
+        p.taken += served.taken;
+        p.waiting = end;
+    }
+    p
 }
 
 // Moves the bytes between two places to the front; answers how many they are.

@@ -1,6 +1,6 @@
 -- `desk::Desk::serve` meets its contract: after each piece, what was written and the text of what is held are the text of the whole input.
 -- Assumes nothing.
-use Rattle.std.proofs.Common.{◌≡◌, true, false, arith}
+use Rattle.std.proofs.Common.{◌≡◌, true, false, Some, arith}
 use Rattle.lines.specs.Pieces.{is_over}
 use Rattle.desk.proofs.Streams.{begins, goes_on, short}
 use Rattle.desk.proofs.Desk.serve.Goals as goal
@@ -14,13 +14,13 @@ pub loop-turn-preserved : goal.loop-turn-preserved
 loop-turn-preserved g c =
     let l = c.loop-turn in
     let piece = c.in_ok-count.ensures.piece in
-    let more : is_over c.in_ok-count.count c.serve_piece.new.self.input ≡ false = cc in
+    let more : is_over (Some c.in_ok-count.count) c.serve_piece.new.self.input ≡ false = cc in
     (omega (arith, c.serve_piece.ensures.place_bound), short c.serve_piece.new.self.input c.in_ok-count.count more piece.served.none, goes_on l.invariant.2 piece)
 
 pub returns-then-is_over : goal.returns-then-is_over
 returns-then-is_over g c =
     let l = c.loop-turn in
-    let over : is_over c.in_ok-count.count c.serve_piece.new.self.input ≡ true = cc in
+    let over : is_over (Some c.in_ok-count.count) c.serve_piece.new.self.input ≡ true = cc in
     record {
       streams = goes_on l.invariant.2 c.in_ok-count.ensures.piece;
       over = record { count = c.in_ok-count.count; over = over; end = λ none. c.in_ok-count.ensures.end none (omega arith) };
