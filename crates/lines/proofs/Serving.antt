@@ -79,22 +79,26 @@ walk_begins piece b l place =
 
 module _ {piece b₀ l₀ : List ℕ} {place₀ : ℕ} {b l : List ℕ} {place taken waiting : ℕ} (w : Walk piece b₀ l₀ place₀ b l place taken waiting) where
   -- one record more, and its line
-  pub walk_on : (line : List ℕ) (n : ℕ)
+  pub walk_on : (line : List ℕ) {at n place' taken' waiting' : ℕ}
       → 126 * length piece ≤ length l₀
       → 0 < first_record (drop taken piece)
       → first_record (drop taken piece) ≤ length (drop taken piece)
       → length line ≤ 126
       → line ≡ front_line b place (drop taken piece)
-      → n ≡ length line
-      → Walk piece b₀ l₀ place₀ (call_book b (front (drop taken piece))) (put_mid waiting n l line) (place + 1) (taken + first_record (drop taken piece)) (waiting + n)
-  walk_on line n room more within short is long =
+      → (at ≡ waiting) × (n ≡ length line)
+      → place' ≡ place + 1
+      → taken' ≡ taken + first_record (drop taken piece)
+      → waiting' ≡ waiting + length line
+      → Walk piece b₀ l₀ place₀ (call_book b (front (drop taken piece))) (put_mid at n l line) place' taken' waiting'
+  walk_on line {n = n} room more within short is put next on long =
       let rest = drop taken piece in
       let m = first_record rest in
       let left = w.left - 1 in
       let one_more : w.left ≡ suc left = omega (arith, w.enough, length-drop taken piece) in
       let step : served_within w.left b place rest ≡ before line m (served_within left (call_book b (front rest)) (place + 1) (behind rest)) = ap (λ (k : ℕ). served_within k b place rest) one_more ∙ rw is (served_more left b rest place more) in
       let fits : waiting + length line ≤ length l = omega (arith, w.fitting, w.sized, length-drop taken piece) in
-      let copied = text_copied l line waiting n long in
+      let copied = text_copied l line waiting n put.1 in
+      rw (put.0, next, on, long)
       record {
         left = left;
         text = w.text ++ line;

@@ -1,7 +1,6 @@
 -- `lines::serve` meets its contract: what is done so far and what the rest leaves are what the whole piece leaves.
 -- Assumes nothing.
 use Rattle.std.proofs.Common.{◌∙◌, arith}
-use native.Mathlib.Nat.{add-sub_cancel_left}
 use Rattle.lines.proofs.Serving.{walk_begins, walk_on, walk_ends, rest_of}
 use Rattle.lines.proofs.serve.Goals as goal
 
@@ -15,8 +14,8 @@ loop-served-preserved c =
     let (more, is_taken, within, is_line, is_book) = rw (rest_of c.args.piece.now l.p.taken) at c.in-Some.ensures.some in
     let copied = c.copy_from_slice.ensures.after ∙ c.deref.ensures.0 in
     let short = rw c.deref.ensures.0 at c.deref.ensures.1 in
-    rw (copied, is_book, is_taken, add-sub_cancel_left l.p.waiting c.len.result)
-    (walk_on l.invariant line c.len.result (omega arith) more (omega arith) short is_line c.len.ensures.value)
+    rw (copied, is_book)
+    (walk_on l.invariant line (omega arith) more (omega arith) short is_line (omega arith, omega arith) (omega arith) (omega arith) (omega arith))
 
 pub returns-clause-serves : goal.returns-clause-serves
 returns-clause-serves c =
