@@ -11,6 +11,7 @@ ghost use Rattle.eligibility.specs.Fresh.{Aged, FreshBaskets, PricesOf};
 use baskets::{Basket, Eligibility};
 use book::Book;
 use book::layout::Table;
+use std::array;
 
 // The map and greatest age of an exposure's basket.
 pub fn basket_of(book: &Book, e: usize) -> Basket
@@ -43,12 +44,7 @@ fn fresh_since(book: &Book, columns: &[u64; 256]) -> [u64; 16]
 {
     let most = greatest_age(book) as usize;
     let days = baskets::fresh_days(columns, book::get(book, Table::Today, 0), most);
-    let mut since = [0u64; 16];
-    for b in 0..16 {
-        let age = book::get(book, Table::GreatestAges, b) as usize;
-        since[b] = days[age];
-    }
-    since
+    array::from_fn(|b| days[book::get(book, Table::GreatestAges, b) as usize])
 }
 
 // What the prices in the book are worth today, found once for all steps of a call: the securities' columns, and the first day of a

@@ -18,6 +18,7 @@ use baskets::Eligibility;
 use book::Book;
 use book::layout::Table;
 use eligibility::Prices;
+use std::array;
 
 // What a step leaves of an exposure: is its position another, and what is its value short of its amount?
 #[derive(Clone, Copy)]
@@ -56,11 +57,7 @@ fn ineligible(position: &[u64; 64], columns: &[u64; 256], x: Eligibility) -> [u6
     requires { AllInBounds columns.now }
     ensures { result ≡ filled (ineligible_in position.now columns.now x) 64 64 }
 {
-    let mut nominals = [0u64; 64];
-    for i in 0..64 {
-        nominals[i] = ineligible_nominal(position, columns, x, i);
-    }
-    nominals
+    array::from_fn(|i| ineligible_nominal(position, columns, x, i))
 }
 
 // May what an exposure holds of security i stay? It is eligible, or nothing is held.

@@ -59,13 +59,7 @@ fn exposure_of_fop(book: &Book, i: usize) -> usize
     requires { (i < 256) × (exposure_of_fop (state book.now) i < 64) }
     ensures { result ≡ exposure_of_fop (state book.now) i }
 {
-    let key = ExposureKey {
-        giver: book::get(book, Table::Givers, i),
-        taker: book::get(book, Table::Takers, i),
-        basket: book::get(book, Table::BasketsOrExposures, i),
-        closing: book::get(book, Table::Closings, i),
-    };
-    exposure_search::exposure_with(book, key).unwrap()
+    exposure_search::exposure_with(book, ExposureKey::of_request(book, i)).unwrap()
 }
 
 // What a FOP settles of its rest, for the value found: all of it where less than the tolerance is missing, else what was found,

@@ -17,6 +17,7 @@ ghost use Rattle.reads.specs.Entries.{answer_by, index_rules, used_rules, is_row
 use answers::Refusal;
 use book::Book;
 use book::layout::{REQUEST_TABLES, Table};
+use std::array;
 
 // The number of a row of which there are so many.
 fn index(x: u64, rows: u64) -> Result<usize, Refusal>
@@ -171,11 +172,7 @@ fn request_answer(book: &Book, i: usize) -> [u64; 15]
     requires { (sound (state book.now) ≡ true) × (i < 256) }
     ensures { result ≡ filled (request_number (state book.now) i) 15 15 }
 {
-    let mut numbers = [0u64; 15];
-    for k in 0..15 {
-        numbers[k] = request_number(book, i, k);
-    }
-    numbers
+    array::from_fn(|k| request_number(book, i, k))
 }
 
 // The nominal of one security in a participant's account: {code, nominal}.

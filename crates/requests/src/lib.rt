@@ -88,7 +88,7 @@ fn enter(book: &mut Book, request: &Record) -> Totals
     }
 }
 
-// 6: enters a FOP.
+// 6: enters a FOP. One function with two contracts, this and `enter_return`: what each asks of its record differs.
 pub fn enter_fop(book: &mut Book, fop: &Record) -> Totals
     requires { (fop.now.kind ≡ Fop) × (sound (state book.old) ≡ true) × (lowest (fop_rules (state book.old) fop.now.fields) ≡ 0) }
     ensures { (result ≡ totals_of (entered (state book.old) 6 fop.now.fields)) × (state book.new ≡ (entered (state book.old) 6 fop.now.fields).state) }
@@ -96,7 +96,7 @@ pub fn enter_fop(book: &mut Book, fop: &Record) -> Totals
     enter(book, fop)
 }
 
-// 7: enters a return.
+// 7: enters a return. One function with two contracts, this and `enter_fop`: what each asks of its record differs.
 pub fn enter_return(book: &mut Book, back: &Record) -> Totals
     requires { (back.now.kind ≡ Return) × (sound (state book.old) ≡ true) × (lowest (return_rules (state book.old) back.now.fields) ≡ 0) }
     ensures { (result ≡ totals_of (entered (state book.old) 7 back.now.fields)) × (state book.new ≡ (entered (state book.old) 7 back.now.fields).state) }

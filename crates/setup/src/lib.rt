@@ -69,6 +69,7 @@ pub fn price(book: &mut Book, legal: &Record)
 }
 
 // 2: a participant's profile: at once where it is the first, else it waits for the next day.
+// Two branches, since a profile in force and one that waits are in different tables.
 #[tactic(auto, unfolding(rules::specs::SetUp::enrolled))]
 pub fn enrol(book: &mut Book, legal: &Record)
     requires { legal.now.kind ≡ Participant }

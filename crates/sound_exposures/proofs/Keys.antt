@@ -10,7 +10,7 @@ use native.Mathlib.Omega.{arith}
 use lib.Dec.{eqb}
 use lib.ListN.{length, get_or, set, length-set, replicate, length-replicate}
 use lib.Seq.{get_or-set_same, get_or-set_other}
-use borrow.Author.Tests.{eqb-true, ne_eqb, not-true}
+use borrow.Author.Tests.{eqb-true, ne_eqb}
 use Rattle.laws.proofs.Cases.{either, clash}
 use Rattle.book.specs.Layout.{in_use, exposure_givers, exposure_takers, exposure_baskets, exposure_closings, key_tables}
 use Rattle.book.specs.State.{State, rows_alike}
@@ -43,17 +43,17 @@ module _ (s : State) (marks : List Bool) (e : ℕ) (m : KeysMarked s marks e) {p
     | no n ↦ rw (ne_eqb (s in_use d) 1 n)
   ]
 
-  pub key_not_marked : not (get_or marks p false) ≡ true → not (get_or marks p false) ≡ distinct_key s e
-  key_not_marked h = h ∙ sym (rw (all_of (other_key s e) e 0 (λ d a l. other (not-true (get_or marks p false) h) d (omega arith)), or-true))
+  pub key_not_marked : {before : Bool} → before ≡ get_or marks p false → before ≡ false → not before ≡ distinct_key s e
+  key_not_marked q f = rw f (sym (rw (all_of (other_key s e) e 0 (λ d a l. other (sym q ∙ f) d (omega arith)), or-true)))
 
-  pub keys_marked_next : p < 1024 → KeysMarked s (set marks p true) (e + 1)
-  keys_marked_next b =
+  pub keys_marked_next : p < 1024 → {after : Bool} → after ≡ true → KeysMarked s (set marks p after) (e + 1)
+  keys_marked_next b a =
       let inside : p < length marks = omega (arith, m.long) in
       record {
         long = simp length-set m.long;
         each = λ d l u. elim (ℕ_discrete (slot_of s d) p) [
-          | yes q ↦ rw (q, get_or-set_same marks p true false inside)
-          | no q ↦ get_or-set_other marks p (slot_of s d) true false q ∙ m.each d (before d l q) u
+          | yes q ↦ rw (a, q, get_or-set_same marks p true false inside)
+          | no q ↦ rw a (get_or-set_other marks p (slot_of s d) true false q ∙ m.each d (before d l q) u)
         ];
       }
     where

@@ -12,6 +12,7 @@ use book::layout::{EXPOSURE_TABLES, KEY_TABLES, Table};
 use exposure_search::ExposureKey;
 use limits::GREATEST_EXPOSURE;
 use open_days::OpenDays;
+use std::mem;
 
 fn is_sound_exposure(book: &Book, e: usize, days: &OpenDays) -> bool
     requires { e < 64 }
@@ -65,7 +66,8 @@ fn is_distinct_key(book: &Book, e: usize) -> bool
 }
 
 // The same by the marks: a key whose slot is not marked differs from all before. Its slot is marked then.
-// The marks are an array of their own: a struct around it would rename its index and no more.
+// The marks are an array of their own: a struct around it would rename its index and no more. What this shares with the marks of
+// `sound_numbers` is `mem::replace`: the table, the slot and the test differ.
 fn is_new_key(marks: &mut [bool; 1024], book: &Book, e: usize) -> bool
     requires { (e < 64) × KeysMarked (state book.now) marks.old e }
     ensures { (result ≡ distinct_key (state book.now) e) × KeysMarked (state book.now) marks.new (e + 1) }
@@ -74,9 +76,7 @@ fn is_new_key(marks: &mut [bool; 1024], book: &Book, e: usize) -> bool
         return true;
     }
     let slot = exposure_search::slot_of(book, e);
-    let is_marked = marks[slot];
-    marks[slot] = true;
-    !is_marked || is_distinct_key(book, e)
+    !mem::replace(&mut marks[slot], true) || is_distinct_key(book, e)
 }
 
 pub fn are_distinct_keys(book: &Book) -> bool

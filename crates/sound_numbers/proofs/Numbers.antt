@@ -10,7 +10,7 @@ use native.Mathlib.Omega.{arith}
 use lib.Dec.{eqb}
 use lib.ListN.{length, get_or, set, length-set, replicate, length-replicate}
 use lib.Seq.{get_or-set_same, get_or-set_other}
-use borrow.Author.Tests.{ne_eqb, not-true}
+use borrow.Author.Tests.{ne_eqb}
 use Rattle.laws.specs.Search.{all}
 use Rattle.laws.proofs.Cases.{clash}
 use Rattle.book.specs.Layout.{numbers}
@@ -35,17 +35,17 @@ module _ (s : State) (marks : List Bool) (i : ℕ) (m : Marked s marks i) {n : �
         let mark : get_or marks (n % 4096) false ≡ true = rw same (m.each j l (λ y. used (same ∙ y))) in
         clash {A = ⊥} mark z))
 
-    pub not_marked : not (get_or marks (n % 4096) false) ≡ true → not (get_or marks (n % 4096) false) ≡ distinct_number s i
-    not_marked h = h ∙ sym (rw (all_of (differs s i) i 0 (λ j a l. other (not-true (get_or marks (n % 4096) false) h) j (omega arith)), or-true))
+    pub not_marked : {before : Bool} → before ≡ get_or marks (n % 4096) false → before ≡ false → not before ≡ distinct_number s i
+    not_marked q f = rw f (sym (rw (all_of (differs s i) i 0 (λ j a l. other (sym q ∙ f) j (omega arith)), or-true)))
 
-  pub marked_next : Marked s (set marks (n % 4096) true) (i + 1)
-  marked_next =
+  pub marked_next : {after : Bool} → after ≡ true → Marked s (set marks (n % 4096) after) (i + 1)
+  marked_next a =
       let inside : n % 4096 < length marks = omega (arith, m.long) in
       record {
         long = simp length-set m.long;
         each = λ j l u. elim (ℕ_discrete (s numbers j % 4096) (n % 4096)) [
-          | yes q ↦ rw (q, get_or-set_same marks (n % 4096) true false inside)
-          | no q ↦ get_or-set_other marks (n % 4096) (s numbers j % 4096) true false q ∙ m.each j (before j l q) u
+          | yes q ↦ rw (a, q, get_or-set_same marks (n % 4096) true false inside)
+          | no q ↦ rw a (get_or-set_other marks (n % 4096) (s numbers j % 4096) true false q ∙ m.each j (before j l q) u)
         ];
       }
     where

@@ -9,6 +9,7 @@ ghost use Rattle.sound_numbers.specs.Numbers.{Marked};
 
 use book::Book;
 use book::layout::Table;
+use std::mem;
 
 fn differ(book: &Book, i: usize, j: usize) -> bool
     requires { (i < 256) × (j < 256) }
@@ -25,7 +26,8 @@ fn is_distinct_number(book: &Book, i: usize) -> bool
 }
 
 // The same by the marks: a number whose slot is not marked differs from all before. Its slot is marked then.
-// The marks are an array of their own: a struct around it would rename its index and no more.
+// The marks are an array of their own: a struct around it would rename its index and no more. What this shares with the marks of
+// `sound_exposures` is `mem::replace`: the table, the slot and the test differ.
 fn is_new_number(marks: &mut [bool; 4096], book: &Book, i: usize) -> bool
     requires { (i < 256) × Marked (state book.now) marks.old i }
     ensures { (result ≡ distinct_number (state book.now) i) × Marked (state book.now) marks.new (i + 1) }
@@ -35,9 +37,7 @@ fn is_new_number(marks: &mut [bool; 4096], book: &Book, i: usize) -> bool
         return true;
     }
     let slot = (number % 4096) as usize;
-    let is_marked = marks[slot];
-    marks[slot] = true;
-    !is_marked || is_distinct_number(book, i)
+    !mem::replace(&mut marks[slot], true) || is_distinct_number(book, i)
 }
 
 // "Request numbers are distinct", of all rows.

@@ -21,6 +21,7 @@ pub fn is_sound_head(book: &Book) -> bool
         && (1..=GREATEST_NEXT).contains(&book::get(book, Table::NextNumber, 0))
 }
 
+// The ranges of `securities::is_legal`, which judges numbers that C lends; here they are the book's bytes, and an open quote day is asked too.
 fn is_sound_security(book: &Book, i: usize, days: &OpenDays) -> bool
     requires { i < 64 }
     ensures { result ≡ sound_security (state book.now) i }

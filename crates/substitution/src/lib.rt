@@ -15,6 +15,7 @@ use book::Book;
 use book::layout::Table;
 use picking::Outcome;
 use records::record::Record;
+use std::array;
 
 // The giver's account with the nominal that is recalled.
 fn account_after(book: &Book, record: &Record) -> [u64; 64]
@@ -66,11 +67,7 @@ fn add_nominals(nominals: &[u64; 64], by: &[u64; 64]) -> [u64; 64]
     requires { Within (nominals_of (added nominals.now by.now)) }
     ensures { result ≡ added nominals.now by.now }
 {
-    let mut sums = [0u64; 64];
-    for i in 0..64 {
-        sums[i] = nominals[i] + by[i];
-    }
-    sums
+    array::from_fn(|i| nominals[i] + by[i])
 }
 
 // The value of the exposure's position after the recall: of what is left with the substitutes.

@@ -1,19 +1,11 @@
--- `reads::request_answer` meets its contract: the numbers below `k` are filled in.
+-- `reads::request_answer` meets its contract: each number is of its table.
 -- Assumes nothing.
-use native.Mathlib.Omega.{arith}
-use mathlib.Core.Path.{◌≡◌}
-use Rattle.laws.proofs.Filled.{filled_first, filled_next}
+use borrow.Author.Rules.{rules}
 use Rattle.book.specs.State.{state}
+use Rattle.book.proofs.Filling.{filled_from_fn}
 use Rattle.reads.specs.Entries.{request_number}
 use Rattle.reads.proofs.request_answer.Goals as goal
 
-pub loop-k-init : goal.loop-k-init
-loop-k-init c = (omega arith, filled_first _ 15)
-
-pub loop-k-preserved : goal.loop-k-preserved
-loop-k-preserved c =
-    let l = c.loop-k in
-    (omega arith, filled_next (request_number (state c.args.book.now) c.args.i) 15 l.k l.numbers c.request_number.ensures l.invariant.1)
-
 pub returns : goal.returns
-returns c = let e : c.loop-k.k ≡ 15 = omega arith in rw e at c.loop-k.invariant.1
+returns c =
+    filled_from_fn _ _ (request_number (state c.args.book.now) c.args.i) 15 (λ i y q l k. search rules) c.from_fn.result c.from_fn.ensures.items
