@@ -21,6 +21,7 @@ fn order_of(book: &Book, i: usize) -> u64
 
 // Is the row the later request of a live pair that is due? Guard by guard: tried as one long `&&`, its last goals lose the tests' facts
 // at the joins and did not close.
+#[tactic(auto, unfolding(rules::specs::Settlement::is_due))]
 fn is_due_pair(book: &Book, i: usize) -> bool
     requires { Good (state book.now) × (i < 256) }
     ensures { result ≡ is_due (state book.now) i }
@@ -29,17 +30,16 @@ fn is_due_pair(book: &Book, i: usize) -> bool
     if number == 0 {
         return false;
     }
-    let partner = book::get(book, Table::Partners, i);
-    if partner == 0 {
+    let Some(j) = partners::partner_of(book, i) else {
         return false;
-    }
+    };
     if book::get(book, Table::Ends, i) != 0 {
         return false;
     }
     if book::get(book, Table::Amounts, i) <= book::get(book, Table::SettledAmounts, i) {
         return false;
     }
-    if number <= book::get(book, Table::Numbers, (partner - 1) as usize) {
+    if number <= book::get(book, Table::Numbers, j) {
         return false;
     }
     book::get(book, Table::Settlements, i) <= book::get(book, Table::Today, 0)

@@ -30,7 +30,7 @@ fn note_settled(book: &mut Book, i: usize, x: u64, e: usize, exposure: u64)
     requires { Settleable (state book.old) i x × (e < 64) }
     ensures { state book.new ≡ put (both_settled (state book.old) i x) exposure_amounts e exposure }
 {
-    let j = (book::get(book, Table::Partners, i) - 1) as usize;
+    let j = partners::partner_of(book, i).unwrap();
     let own = book::get(book, Table::SettledAmounts, i);
     let other = book::get(book, Table::SettledAmounts, j);
     book::set(book, Table::SettledAmounts, i, own + x);

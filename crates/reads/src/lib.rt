@@ -135,11 +135,10 @@ fn partner_number(book: &Book, i: usize) -> u64
     requires { (sound (state book.now) ≡ true) × (i < 256) }
     ensures { result ≡ partner_number (state book.now) i }
 {
-    let partner = book::get(book, Table::Partners, i);
-    if partner == 0 {
-        return 0;
+    match partners::partner_of(book, i) {
+        None => 0,
+        Some(j) => book::get(book, Table::Numbers, j),
     }
-    book::get(book, Table::Numbers, partner as usize - 1)
 }
 
 // One number of the answer of an accepted read of a request.

@@ -1,9 +1,9 @@
 -- What an accepted record has to hand: rows and numbers, an exposure row, the row that a cancel names.
 -- Assumes nothing.
-use mathlib.Core.Path.{◌≡◌, refl, ap, ◌∙◌}
+use mathlib.Core.Path.{◌≡◌, refl}
 use mathlib.Core.Bool.{true}
 use mathlib.Core.List.{List}
-use Prim.Native.Nat.{ℕ, ◌-◌, ◌<◌}
+use Prim.Native.Nat.{ℕ, ◌+◌, ◌<◌}
 use native.Mathlib.Omega.{arith}
 use lib.ListN.{get_or}
 use borrow.Author.Tests.{eqb-false, ne_eqb, lt-ltb}
@@ -76,15 +76,15 @@ module _ (s : State) (r : List ℕ) (sound-now : sound s ≡ true) where
       pub some_own : IsSome o
       some_own = rw (oq, lt-ltb row 256 own.0)
 
-      pub cancel_pair : {i p : ℕ} → o ≡ Some i → p ≡ s partners i → (p ≡ 0 → ⊥) → PairIn s i (p - 1)
-      cancel_pair {i} {p} is pq n =
+      pub cancel_pair : {i j : ℕ} → o ≡ Some i → s partners i ≡ j + 1 → PairIn s i j
+      cancel_pair {i} {j} is e =
           let which = found_some 256 row oq is in
           let below : i < 256 = omega (which.0, which.1, arith) in
           let used : is_used s i ≡ true = rw which.0 own.1 in
           let sound-row = facts.row i below in
           let parties = (used_fields s i sound-row used).parties in
-          let paired : is_paired s i ≡ true = rw (ne_eqb (s partners i) 0 (λ z. n (pq ∙ z))) in
-          let same : p - 1 ≡ partner_of s i = ap (λ (x : ℕ). x - 1) pq in
+          let paired : is_paired s i ≡ true = rw (ne_eqb (s partners i) 0 (λ z. omega (arith, e, z))) in
+          let same : j ≡ partner_of s i = omega (arith, e) in
           record {
             row = below;
             giver = parties.giver_below;

@@ -4,9 +4,10 @@ use mathlib.Core.Path.{◌≡◌, refl, sym, ◌∙◌}
 use mathlib.Core.Bool.{Bool, true, false, and-false, or-true}
 use mathlib.Core.List.{List}
 use Prim.Native.Nat.{ℕ, ◌+◌, ◌<◌}
+use native.Mathlib.Omega.{arith}
 use lib.Dec.{ltb}
 use lib.ListN.{get_or}
-use borrow.Author.Tests.{eq-eqb, ne_eqb, lt-ltb, le-ltb}
+use borrow.Author.Tests.{ne_eqb, lt-ltb, le-ltb}
 use Rattle.std.specs.Prelude.{Option, Some, None}
 use Rattle.laws.specs.Found.{found}
 use Rattle.laws.proofs.Found.{found_some, found_nothing}
@@ -105,14 +106,14 @@ pub cancelled_silent : (s : State) (r : List ℕ) → record { a = 0; b = 0; m =
 unfolding cancelled
 cancelled_silent s r = refl
 
-module _ (s : State) (r : List ℕ) {o : Option ℕ} (oq : o ≡ found 256 (own_request s (get_or r 0 0) (get_or r 1 0))) {i : ℕ} (is : o ≡ Some i) {p : ℕ} (pq : p ≡ s partners i) where
+module _ (s : State) (r : List ℕ) {o : Option ℕ} (oq : o ≡ found 256 (own_request s (get_or r 0 0) (get_or r 1 0))) {i : ℕ} (is : o ≡ Some i) where
   iq : i ≡ own_request s (get_or r 0 0) (get_or r 1 0)
   iq = (found_some 256 (own_request s (get_or r 0 0) (get_or r 1 0)) oq is).0
 
-  pub cancelled_alone : {t : State} → p ≡ 0 → t ≡ put s ends i 1 → t ≡ (cancelled s r).state
+  pub cancelled_alone : {t : State} → s partners i ≡ 0 → t ≡ put s ends i 1 → t ≡ (cancelled s r).state
   unfolding cancelled
-  cancelled_alone h tq = rw (← iq, eq-eqb (s partners i) 0 (sym pq ∙ h)) tq
+  cancelled_alone h tq = rw (← iq, h) tq
 
-  pub cancelled_paired : {t : State} → (p ≡ 0 → ⊥) → t ≡ cancelled_pair s i → t ≡ (cancelled s r).state
+  pub cancelled_paired : (j : ℕ) {t : State} → s partners i ≡ j + 1 → t ≡ cancelled_pair s i → t ≡ (cancelled s r).state
   unfolding cancelled
-  cancelled_paired h tq = rw (← iq, ne_eqb (s partners i) 0 (λ z. h (pq ∙ z))) tq
+  cancelled_paired j e tq = rw (← iq, ne_eqb (s partners i) 0 (λ z. omega (arith, e, z))) tq

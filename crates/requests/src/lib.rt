@@ -154,11 +154,9 @@ pub fn cancel(book: &mut Book, cancel: &Record) -> Totals
     ensures { (result ≡ totals_of (cancelled (state book.old) cancel.now.fields)) × (state book.new ≡ (cancelled (state book.old) cancel.now.fields).state) }
 {
     let i = request_search::own_request(book, cancel.fields[0], cancel.fields[1]).unwrap();
-    let partner = book::get(book, Table::Partners, i);
-    if partner == 0 {
-        book::set(book, Table::Ends, i, 1);
-    } else {
-        cancel_paired(book, i, partner as usize - 1);
+    match partners::partner_of(book, i) {
+        None => book::set(book, Table::Ends, i, 1),
+        Some(j) => cancel_paired(book, i, j),
     }
     Totals { a: 0, b: 0, m: 0 }
 }

@@ -80,6 +80,7 @@ fn does_belong(book: &Book, hints: &[u8; 1024], q: Request) -> bool
     q.kind == Kind::Return as u64 || exposure_search::has_exposure(book, hints, key)
 }
 
+// By the mark that `Request::at` read with the row's other fields, all at once for speed; `partners::partner_of` would read it again.
 fn is_sound_paired(book: &Book, hints: &[u8; 1024], q: Request) -> bool
     requires { Reads (state book.now) q × (0 < q.partner) }
     ensures { result ≡ sound_paired (state book.now) q.row }

@@ -48,6 +48,7 @@ fn is_sound_row(book: &Book, hints: &[u8; 1024], days: &OpenDays, i: usize) -> b
     requires { (i < 256) × Passed (state book.now) i }
     ensures { result ≡ sound_row (state book.now) i }
 {
+    // The mark by itself, not `partners::partner_of`: both fields are read at once, before the tests, for speed.
     let number = book::get(book, Table::Numbers, i);
     let partner = book::get(book, Table::Partners, i);
     if number == 0 {

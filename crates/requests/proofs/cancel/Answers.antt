@@ -8,10 +8,10 @@ pub unwrap-i-requires : goal.unwrap-i-requires
 unwrap-i-requires c = search some_own
 
 pub cancel_paired-requires : goal.cancel_paired-requires
-cancel_paired-requires c = search cancel_pair
+cancel_paired-requires c = search (cancel_pair, c.in-Some.ensures)
 
-pub returns-then-partner-eq0 : goal.returns-then-partner-eq0
-returns-then-partner-eq0 c = (search cancelled_silent, search cancelled_alone)
+pub returns-in-None : goal.returns-in-None
+returns-in-None c = (search cancelled_silent, search (cancelled_alone, c.in-None.ensures))
 
-pub returns-else-partner-eq0 : goal.returns-else-partner-eq0
-returns-else-partner-eq0 c = (search cancelled_silent, search cancelled_paired)
+pub returns-in-Some : goal.returns-in-Some
+returns-in-Some c = (search cancelled_silent, search (cancelled_paired, c.in-Some.ensures))
