@@ -12,6 +12,7 @@ use std::marker::Model;
 // As many bytes as are held at most, so that the lines of all of them fit into the text of a piece.
 const ROOM: usize = 512;
 
+// Bytes and two places, not an `ArrayVec`: a reader fills bytes that are there, behind those that are held.
 #[derive(Drop)]
 pub struct Input {
     bytes: [u8; ROOM],

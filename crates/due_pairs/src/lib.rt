@@ -45,7 +45,8 @@ fn is_due_pair(book: &Book, i: usize) -> bool
     book::get(book, Table::Settlements, i) <= book::get(book, Table::Today, 0)
 }
 
-// Is the row the later request of a live pair of a kind that is due? What few rows pass is asked first.
+// Is the row the later request of a live pair of a kind that is due? What few rows pass is asked first. A kind is a number here and below,
+// as the rows have it: any may be looked for.
 fn is_due(book: &Book, kind: u64, i: usize) -> bool
     requires { Good (state book.now) × (i < 256) }
     ensures { result ≡ due_of (state book.now) kind i }
