@@ -1,6 +1,6 @@
 -- What is read and written from one piece to the next, and at the end.
 -- Assumes nothing.
-use Rattle.std.proofs.Common.{◌≡◌, refl, sym, ap, subst, ◌∙◌, true, false, true≢false, List, [], ◌∷◌, ◌++◌, ℕ, zero, suc, ◌≤◌, ◌<◌, length, Some, None, IfSome, arith, leb}
+use Rattle.std.proofs.Common.{◌≡◌, refl, sym, ap, subst, append-nil, ◌∙◌, true, false, true≢false, List, [], ◌∷◌, ◌++◌, ℕ, zero, suc, ◌≤◌, ◌<◌, length, Some, None, IfSome, arith, leb}
 use Rattle.std.specs.declared.option.Option.{Option}
 use mathlib.Core.Logic.{⊎_elim}
 use borrow.Author.Tests.{leb-false}
@@ -13,7 +13,7 @@ use Rattle.line_text.specs.Text.{last_line}
 use Rattle.lines.specs.Program.{record_length, first_record, zero_book, program_text}
 use Rattle.lines.specs.Pieces.{is_awaited, is_over}
 use Rattle.lines.proofs.Program.{reached_begins, reached_on, reached_ends}
-use Rattle.desk.specs.Streams.{Piece, Between, Over}
+use Rattle.desk.specs.Streams.{Piece, Unread, Between, Over}
 
 -- a run begins with nothing read and nothing written
 pub begins : (left holds : Option (List ℕ)) → Between left left holds holds zero_book [] 1
@@ -63,3 +63,12 @@ short (k ∷ b) (suc n) h none =
     absurd (true≢false (rw (← none') at h)))
     (λ (t : leb (record_length k) (length (k ∷ b)) ≡ false). omega (arith, leb-false (record_length k) (length (k ∷ b)) t, length_most k))
     (either (leb (record_length k) (length (k ∷ b))))
+
+-- a read that failed
+pub stays : {left₀ left left' holds₀ holds holds' : Option (List ℕ)} {b held b' held' : List ℕ} {place place' : ℕ}
+    → Between left₀ left holds₀ holds b held place
+    → Unread left left' holds holds' b held place b' held' place'
+    → Between left₀ left' holds₀ holds' b' held' place'
+stays {left₀} {left} {left'} {holds₀} {holds} {holds'} r u =
+    rw (u.books, u.rest, u.places)
+    (record { input = r.input; written = r.written; reached = r.reached; consumed = rw (append-nil r.input) at (Consumes-trans left₀ left left' _ _ r.consumed u.consumed); appended = rw (append-nil r.written) at (Appends-trans holds₀ holds holds' _ _ r.appended u.appended); served = r.served })

@@ -1,6 +1,6 @@
 -- What a run of the program has read and written, by what its reader has left and its writer holds, where these are known.
 -- Assumes nothing.
-use Rattle.std.specs.Prelude.{◌≡◌, true, ◌++◌, List, ℕ, drop, Some}
+use Rattle.std.specs.Prelude.{◌≡◌, true, ◌++◌, List, [], ℕ, drop, Some}
 use Rattle.std.specs.declared.option.Option.{Option}
 use Rattle.std.specs.Io.KnownBytes.{Consumes, Appends, IsAtEnd}
 use Rattle.lines.specs.Program.{first_record}
@@ -28,6 +28,14 @@ pub record Piece (left₀ left holds₀ holds : Option (List ℕ)) (book₀ held
   pub served : ServesHeld book₀ (held₀ ++ got) place₀ book lines held place
   pub appended : Appends holds₀ holds lines
 
+-- a read that failed: it gave nothing, nothing was served, and the writer took nothing
+pub record Unread (left₀ left holds₀ holds : Option (List ℕ)) (book₀ held₀ : List ℕ) (place₀ : ℕ) (book held : List ℕ) (place : ℕ) : Type 0 where
+  pub consumed : Consumes left₀ left []
+  pub appended : Appends holds₀ holds []
+  pub books : book ≡ book₀
+  pub rest : held ≡ held₀
+  pub places : place ≡ place₀
+
 -- between two pieces: an input that the reader gave, and a text that the writer took, which with what is held, and whatever comes behind, are
 -- the text of the whole input; no whole record is held
 pub record Between (left₀ left holds₀ holds : Option (List ℕ)) (book held : List ℕ) (place : ℕ) : Type 0 where
@@ -43,3 +51,10 @@ pub record Over (left : Option (List ℕ)) (held : List ℕ) : Type 0 where
   pub count : ℕ
   pub over : is_over (Some count) held ≡ true
   pub end : count ≡ 0 → IsAtEnd left
+
+-- a run that stopped at a read that failed: the writer took the lines of the whole records of what the reader gave, and nothing of the rest
+pub record Stopped (left₀ left holds₀ holds : Option (List ℕ)) : Type 0 where
+  pub book : List ℕ
+  pub held : List ℕ
+  pub place : ℕ
+  pub between : Between left₀ left holds₀ holds book held place

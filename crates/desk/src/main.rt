@@ -2,15 +2,16 @@
 // Proved here: what was held of a piece stands in front of what is read next (`Input::read_more`), each piece is served once, with the book
 // and the place that the last one left, and its lines are written (`Desk::serve_piece`); so the lines of all pieces and the last line are the
 // text of the whole input. For any reader and writer whose bytes are known, `run` writes the text of all that the reader has, where it
-// answers `Ok`. What standard input gives and standard output takes is the system's: that is tested, on stdin and stdout beside src/ and by
+// answers `Ok`; where a read failed, the lines of the whole records of what the reader gave. What standard input gives and standard output takes is the system's: that is tested, on stdin and stdout beside src/ and by
 // tests/tests/lines.rs.
 #![tactic(auto)]
 
-ghost use Rattle.std.specs.Prelude.{◌≡◌, ◌+◌, ◌≤◌, ◌<◌, [], length, take, OnOk, IfOk, IfSome};
+ghost use Rattle.std.specs.Prelude.{◌≡◌, ◌+◌, ◌≤◌, ◌<◌, [], length, take, OnOk, IfOk, IfErr, IfSome};
 ghost use Rattle.std.specs.Io.KnownBytes.{Appends, IsAtEnd};
 ghost use Rattle.line_text.specs.Text.{last_line};
 ghost use Rattle.lines.specs.Program.{zero_book, program_text};
-ghost use Rattle.desk.specs.Streams.{ServesHeld, Piece, Between, Over};
+ghost use Rattle.desk.specs.Streams.{ServesHeld, Piece, Unread, Between, Over, Stopped};
+ghost use Rattle.desk.specs.declared.Failure.TheVariants.{Read, Write};
 
 mod input;
 
@@ -39,7 +40,8 @@ impl fmt::Display for Failure {
 }
 
 fn write_text<W: Write>(writer: &mut W, text: &[u8]) -> Result<(), Failure>
-    ensures { OnOk result (Appends (W.contents writer.old) (W.contents writer.new) text.now) }
+    ensures wrote { OnOk result (Appends (W.contents writer.old) (W.contents writer.new) text.now) }
+    ensures failed { IfErr result (λ failure. failure ≡ Write) }
 {
     writer.write_all(text).map_err(|_| Failure::Write)
 }
@@ -93,6 +95,7 @@ impl Desk {
     ) -> Result<usize, Failure>
         requires { self.old.place + 512 < 18446744073709551616 }
         ensures piece { OnOk result (Piece (R.remaining reader.old) (R.remaining reader.new) (W.contents writer.old) (W.contents writer.new) self.old.book self.old.input self.old.place self.new.book self.new.input self.new.place) }
+        ensures failed_read { IfErr result (λ failure. failure ≡ Read → Unread (R.remaining reader.old) (R.remaining reader.new) (W.contents writer.old) (W.contents writer.new) self.old.book self.old.input self.old.place self.new.book self.new.input self.new.place) }
         ensures place_bound { self.new.place ≤ self.old.place + 512 }
         ensures end { IfOk result (λ n. n ≡ 0 → length self.old.input < 512 → IsAtEnd (R.remaining reader.new)) }
     {
@@ -107,6 +110,7 @@ impl Desk {
         requires { (self.old.book ≡ zero_book) × (self.old.input ≡ []) × (self.old.place ≡ 1) }
         ensures streams { OnOk result (Between (R.remaining reader.old) (R.remaining reader.new) (W.contents writer.old) (W.contents writer.new) self.new.book self.new.input self.new.place) }
         ensures over { OnOk result (Over (R.remaining reader.new) self.new.input) }
+        ensures failed_read { IfErr result (λ failure. failure ≡ Read → Between (R.remaining reader.old) (R.remaining reader.new) (W.contents writer.old) (W.contents writer.new) self.new.book self.new.input self.new.place) }
     {
         for _turn in 0..READS {
             let count = self.serve_piece(reader, writer)?;
@@ -119,7 +123,8 @@ impl Desk {
 
     // Writes the line of a cut or unknown record at the input's end.
     fn finish<W: Write>(&mut self, writer: &mut W) -> Result<(), Failure>
-        ensures { OnOk result (Appends (W.contents writer.old) (W.contents writer.new) (last_line self.old.place self.old.input)) }
+        ensures wrote { OnOk result (Appends (W.contents writer.old) (W.contents writer.new) (last_line self.old.place self.old.input)) }
+        ensures failed { IfErr result (λ failure. failure ≡ Write) }
     {
         let line = line_text::last_line(self.place, self.input.held());
         write_text(writer, &line)
@@ -129,6 +134,7 @@ impl Desk {
 // Serves the whole input.
 fn run<R: Read, W: Write>(reader: &mut R, writer: &mut W) -> Result<(), Failure>
     ensures prints { OnOk result (IfSome (R.remaining reader.old) (λ input. Appends (W.contents writer.old) (W.contents writer.new) (program_text input))) }
+    ensures failed_read { IfErr result (λ failure. failure ≡ Read → Stopped (R.remaining reader.old) (R.remaining reader.new) (W.contents writer.old) (W.contents writer.new)) }
 {
     let mut desk = Desk::new();
     desk.serve(reader, writer)?;

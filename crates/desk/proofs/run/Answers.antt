@@ -4,7 +4,7 @@ use Rattle.std.proofs.lemmas.Result.{on_ok_weaker}
 use Rattle.desk.proofs.Streams.{ends}
 use Rattle.desk.proofs.run.Goals as goal
 
-pub returns : goal.returns
-returns g c =
+pub returns-clause-prints : goal.returns-clause-prints
+returns-clause-prints g c =
     let served = c.in_ok-serve.ensures in
-    record { prints = on_ok_weaker c.finish.result (ends _ _ _ _ _ _ _ _ served.streams served.over) c.finish.ensures }
+    on_ok_weaker c.finish.result (ends _ _ _ _ _ _ _ _ served.streams served.over) c.finish.ensures.wrote

@@ -24,4 +24,5 @@ returns-then-is_over g c =
     record {
       streams = goes_on l.invariant.2 c.in_ok-count.ensures.piece;
       over = record { count = c.in_ok-count.count; over = over; end = λ none. c.in_ok-count.ensures.end none (omega arith) };
+      failed_read = tt;
     }

@@ -12,5 +12,5 @@ returns-clause-piece g c =
       lines = take held.result held.new.self.lines;
       consumed = gained.consumed;
       served = rw gained.behind at held.ensures.served;
-      appended = c.in_ok-write_text.ensures;
+      appended = c.in_ok-write_text.ensures.wrote;
     }
