@@ -3,8 +3,8 @@
 
 ghost use Rattle.std.specs.Prelude.{true, ◌≡◌, ◌*◌, ◌<◌};
 ghost use Rattle.laws.specs.Search.{all};
-ghost use Rattle.book.specs.Layout.{numbers};
-ghost use Rattle.book.specs.State.{state};
+ghost use Rattle.book.specs.Layout.{numbers, request_tables};
+ghost use Rattle.book.specs.State.{state, row_blank};
 ghost use Rattle.rules.specs.ByRow.{sound_row};
 ghost use Rattle.row_tests.specs.Rows.{HaveRow};
 ghost use Rattle.book.specs.Tables.{numbers_of};
@@ -36,6 +36,37 @@ fn is_sound_later(book: &Book, i: usize, j: usize) -> bool
         && book::get(book, Table::Cancels, i) <= 1
 }
 
+// A request's tables in two parts, each short enough for the compiler to unroll a loop over it.
+const TERM_TABLES: [Table; 7] = [
+    Table::Numbers,
+    Table::RequestKinds,
+    Table::Sides,
+    Table::Givers,
+    Table::Takers,
+    Table::BasketsOrExposures,
+    Table::Amounts,
+];
+
+const REST_TABLES: [Table; 8] = [
+    Table::Settlements,
+    Table::Closings,
+    Table::References,
+    Table::SettledAmounts,
+    Table::Partners,
+    Table::PairPartials,
+    Table::Cancels,
+    Table::Ends,
+];
+
+// Does a row hold nothing? By one list of all fifteen tables, which is not unrolled, a book whose used rows are far apart takes more than
+// twice as long.
+fn is_blank_row(book: &Book, i: usize) -> bool
+    requires { i < 256 }
+    ensures { result ≡ row_blank (state book.now) request_tables i }
+{
+    row_tests::is_blank(book, &TERM_TABLES, i) && row_tests::is_blank(book, &REST_TABLES, i)
+}
+
 // Do sixteen rows hold nothing, in each of some tables?
 fn are_tables_empty(book: &Book, tables: &[Table], k: usize) -> bool
     requires { (k < 16) × HaveRow 255 tables.now }
@@ -52,7 +83,7 @@ fn is_sound_row(book: &Book, hints: &[u8; 1024], days: &OpenDays, i: usize) -> b
     let number = book::get(book, Table::Numbers, i);
     let partner = book::get(book, Table::Partners, i);
     if number == 0 {
-        return row_tests::is_blank(book, &REQUEST_TABLES, i);
+        return is_blank_row(book, i);
     }
     if partner != 0 && partner <= i as u64 {
         return is_sound_later(book, i, (partner - 1) as usize);
