@@ -4,7 +4,7 @@
 ghost use Rattle.std.specs.Prelude.{◌≡◌, IfOk};
 ghost use Rattle.answers.specs.Refusals.{outcome_code};
 ghost use Rattle.rules.specs.Call.{opens};
-ghost use Rattle.damage.specs.Damage.{book_damage};
+ghost use Rattle.damage.specs.Damage.{book_damage, damage};
 
 use answers::Refusal;
 use book::Book;
@@ -35,4 +35,12 @@ pub fn sound_book(book: &[u8], opening: bool) -> Result<&Book, Refusal>
     let book = book.as_array().ok_or(Refusal::BookLength)?;
     check_sound(book, opening)?;
     Ok(book)
+}
+
+// What a call begins with: the book lent, and the record's bytes, which say whether it is an opening.
+pub fn check_call(book: &[u8], bytes: &[u8]) -> Result<(), Refusal>
+    ensures { outcome_code result ≡ damage book.now bytes.now }
+{
+    sound_book(book, is_opening(bytes))?;
+    Ok(())
 }

@@ -66,10 +66,10 @@ fn outcome(book: &mut [u8], bytes: &[u8]) -> Result<Totals, Refusal>
     ensures left { book.new ≡ call_book book.old bytes.now }
     ensures value { answer_of result ≡ call_answer book.old bytes.now }
 {
+    damage::check_call(book, bytes)?;
     let Some(book) = book.as_mut_array() else {
         return Err(Refusal::BookLength);
     };
-    damage::check_sound(book, damage::is_opening(bytes))?;
     let legal = records::read(bytes)?;
     check(book, &legal)?;
     Ok(take_step(book, &legal))
