@@ -28,6 +28,13 @@ pub record Piece (left₀ left holds₀ holds : Option (List ℕ)) (book₀ held
   pub served : ServesHeld book₀ (held₀ ++ got) place₀ book lines held place
   pub appended : Appends holds₀ holds lines
 
+-- a write that failed: what was held with what the reader gave behind it is served all the same
+pub record Unwritten (left₀ left : Option (List ℕ)) (book₀ held₀ : List ℕ) (place₀ : ℕ) (book held : List ℕ) (place : ℕ) : Type 0 where
+  pub got : List ℕ
+  pub lines : List ℕ
+  pub consumed : Consumes left₀ left got
+  pub served : ServesHeld book₀ (held₀ ++ got) place₀ book lines held place
+
 -- a read that failed: it gave nothing, nothing was served, and the writer took nothing
 pub record Unread (left₀ left holds₀ holds : Option (List ℕ)) (book₀ held₀ : List ℕ) (place₀ : ℕ) (book held : List ℕ) (place : ℕ) : Type 0 where
   pub consumed : Consumes left₀ left []

@@ -10,7 +10,7 @@ ghost use Rattle.std.specs.Prelude.{◌≡◌, ◌+◌, ◌≤◌, ◌<◌, [], 
 ghost use Rattle.std.specs.Io.KnownBytes.{Appends, IsAtEnd};
 ghost use Rattle.line_text.specs.Text.{last_line};
 ghost use Rattle.lines.specs.Program.{zero_book, program_text};
-ghost use Rattle.desk.specs.Streams.{ServesHeld, Piece, Unread, Between, Over, Stopped};
+ghost use Rattle.desk.specs.Streams.{ServesHeld, Piece, Unread, Unwritten, Between, Over, Stopped};
 ghost use Rattle.desk.specs.declared.Failure.TheVariants.{Read, Write};
 
 mod input;
@@ -96,6 +96,7 @@ impl Desk {
         requires { self.old.place + 512 < 18446744073709551616 }
         ensures piece { OnOk result (Piece (R.remaining reader.old) (R.remaining reader.new) (W.contents writer.old) (W.contents writer.new) self.old.book self.old.input self.old.place self.new.book self.new.input self.new.place) }
         ensures failed_read { IfErr result (λ failure. failure ≡ Read → Unread (R.remaining reader.old) (R.remaining reader.new) (W.contents writer.old) (W.contents writer.new) self.old.book self.old.input self.old.place self.new.book self.new.input self.new.place) }
+        ensures failed_write { IfErr result (λ failure. failure ≡ Write → Unwritten (R.remaining reader.old) (R.remaining reader.new) self.old.book self.old.input self.old.place self.new.book self.new.input self.new.place) }
         ensures place_bound { self.new.place ≤ self.old.place + 512 }
         ensures end { IfOk result (λ n. n ≡ 0 → length self.old.input < 512 → IsAtEnd (R.remaining reader.new)) }
     {
