@@ -37,8 +37,8 @@ pub fn sound_book(book: &[u8], opening: bool) -> Result<&Book, Refusal>
     Ok(book)
 }
 
-// What a call begins with: the book lent, and the record's bytes, which say whether it is an opening. Not by `sound_book`: with two callers it
-// is no longer inlined, and a book of another length takes the stack of the soundness test.
+// What a call begins with: the book lent, and the record's bytes, which say whether it is an opening. Not by `sound_book`: `check_sound` would
+// have that one caller and be inlined there, and a book of another length would take its stack.
 pub fn check_call(book: &[u8], bytes: &[u8]) -> Result<(), Refusal>
     ensures { outcome_code result ≡ damage book.now bytes.now }
 {
