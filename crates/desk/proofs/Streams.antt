@@ -13,7 +13,7 @@ use Rattle.line_text.specs.Text.{last_line}
 use Rattle.lines.specs.Program.{record_length, first_record, zero_book, program_text}
 use Rattle.lines.specs.Pieces.{is_awaited, is_over}
 use Rattle.lines.proofs.Program.{reached_begins, reached_on, reached_ends}
-use Rattle.desk.specs.Streams.{Piece, Unread, Between, Over}
+use Rattle.desk.specs.Streams.{Piece, Unread, Unwritten, Between, Undelivered, Over}
 
 -- a run begins with nothing read and nothing written
 pub begins : (left holds : Option (List ℕ)) → Between left left holds holds zero_book [] 1
@@ -72,3 +72,14 @@ pub stays : {left₀ left left' holds₀ holds holds' : Option (List ℕ)} {b he
 stays {left₀} {left} {left'} {holds₀} {holds} {holds'} r u =
     rw (u.books, u.rest, u.places)
     (record { input = r.input; written = r.written; reached = r.reached; consumed = rw (append-nil r.input) at (Consumes-trans left₀ left left' _ _ r.consumed u.consumed); appended = rw (append-nil r.written) at (Appends-trans holds₀ holds holds' _ _ r.appended u.appended); served = r.served })
+
+-- a write that failed
+pub undelivered : {left₀ left left' holds₀ holds : Option (List ℕ)} {b held b' held' : List ℕ} {place place' : ℕ}
+    → Between left₀ left holds₀ holds b held place
+    → Unwritten left left' b held place b' held' place'
+    → Undelivered left₀ left' b' held' place'
+undelivered {left₀} {left} {left'} {held = held} r p =
+    let s = p.served in
+    let on = reached_on r.reached p.got (held ++ p.got) refl in
+    let reached = rw (← s.books, ← s.places, ← s.rest) at on in
+    record { input = _; written = _; reached = reached; consumed = Consumes-trans left₀ left left' _ _ r.consumed p.consumed }

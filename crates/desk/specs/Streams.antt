@@ -1,6 +1,6 @@
 -- What a run of the program has read and written, by what its reader has left and its writer holds, where these are known.
 -- Assumes nothing.
-use Rattle.std.specs.Prelude.{◌≡◌, true, ◌++◌, List, [], ℕ, drop, Some}
+use Rattle.std.specs.Prelude.{◌≡◌, true, ◌++◌, List, [], ℕ, ◌<◌, length, drop, Some}
 use Rattle.std.specs.declared.option.Option.{Option}
 use Rattle.std.specs.Io.KnownBytes.{Consumes, Appends, IsAtEnd}
 use Rattle.lines.specs.Program.{first_record}
@@ -34,6 +34,7 @@ pub record Unwritten (left₀ left : Option (List ℕ)) (book₀ held₀ : List 
   pub lines : List ℕ
   pub consumed : Consumes left₀ left got
   pub served : ServesHeld book₀ (held₀ ++ got) place₀ book lines held place
+  pub end : got ≡ [] → length held₀ < 512 → IsAtEnd left
 
 -- a read that failed: it gave nothing, nothing was served, and the writer took nothing
 pub record Unread (left₀ left holds₀ holds : Option (List ℕ)) (book₀ held₀ : List ℕ) (place₀ : ℕ) (book held : List ℕ) (place : ℕ) : Type 0 where
@@ -52,6 +53,13 @@ pub record Between (left₀ left holds₀ holds : Option (List ℕ)) (book held 
   pub consumed : Consumes left₀ left input
   pub appended : Appends holds₀ holds written
   pub served : 0 ≡ first_record held
+
+-- a run that stopped at a write that failed: the input that the reader gave leads to this book, this place and what is held
+pub record Undelivered (left₀ left : Option (List ℕ)) (book held : List ℕ) (place : ℕ) : Type 0 where
+  pub input : List ℕ
+  pub written : List ℕ
+  pub reached : Reached input written book held place
+  pub consumed : Consumes left₀ left input
 
 -- nothing is to be read any more: the reader is at its end, or an unknown record is held, by what the last read gave
 pub record Over (left : Option (List ℕ)) (held : List ℕ) : Type 0 where

@@ -2,7 +2,7 @@
 // Proved here: what was held of a piece stands in front of what is read next (`Input::read_more`), each piece is served once, with the book
 // and the place that the last one left, and its lines are written (`Desk::serve_piece`); so the lines of all pieces and the last line are the
 // text of the whole input. For any reader and writer whose bytes are known, `run` writes the text of all that the reader has, where it
-// answers `Ok`; where a read failed, the lines of the whole records of what the reader gave. What standard input gives and standard output takes is the system's: that is tested, on stdin and stdout beside src/ and by
+// answers `Ok`; where it answers that a read failed, the lines of the whole records of what the reader gave. What standard input gives and standard output takes is the system's: that is tested, on stdin and stdout beside src/ and by
 // tests/tests/lines.rs.
 #![tactic(auto)]
 
@@ -10,7 +10,7 @@ ghost use Rattle.std.specs.Prelude.{◌≡◌, ◌+◌, ◌≤◌, ◌<◌, [], 
 ghost use Rattle.std.specs.Io.KnownBytes.{Appends, IsAtEnd};
 ghost use Rattle.line_text.specs.Text.{last_line};
 ghost use Rattle.lines.specs.Program.{zero_book, program_text};
-ghost use Rattle.desk.specs.Streams.{ServesHeld, Piece, Unread, Unwritten, Between, Over, Stopped};
+ghost use Rattle.desk.specs.Streams.{ServesHeld, Piece, Unread, Unwritten, Between, Undelivered, Over, Stopped};
 ghost use Rattle.desk.specs.declared.Failure.TheVariants.{Read, Write};
 
 mod input;
@@ -111,6 +111,7 @@ impl Desk {
         requires { (self.old.book ≡ zero_book) × (self.old.input ≡ []) × (self.old.place ≡ 1) }
         ensures streams { OnOk result (Between (R.remaining reader.old) (R.remaining reader.new) (W.contents writer.old) (W.contents writer.new) self.new.book self.new.input self.new.place) }
         ensures over { OnOk result (Over (R.remaining reader.new) self.new.input) }
+        ensures failed_write { IfErr result (λ failure. failure ≡ Write → Undelivered (R.remaining reader.old) (R.remaining reader.new) self.new.book self.new.input self.new.place) }
         ensures failed_read { IfErr result (λ failure. failure ≡ Read → Between (R.remaining reader.old) (R.remaining reader.new) (W.contents writer.old) (W.contents writer.new) self.new.book self.new.input self.new.place) }
     {
         for _turn in 0..READS {
@@ -123,8 +124,8 @@ impl Desk {
     }
 
     // Writes the line of a cut or unknown record at the input's end.
-    fn finish<W: Write>(&mut self, writer: &mut W) -> Result<(), Failure>
-        ensures wrote { OnOk result (Appends (W.contents writer.old) (W.contents writer.new) (last_line self.old.place self.old.input)) }
+    fn finish<W: Write>(&self, writer: &mut W) -> Result<(), Failure>
+        ensures wrote { OnOk result (Appends (W.contents writer.old) (W.contents writer.new) (last_line self.now.place self.now.input)) }
         ensures failed { IfErr result (λ failure. failure ≡ Write) }
     {
         let line = line_text::last_line(self.place, self.input.held());

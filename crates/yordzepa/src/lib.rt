@@ -1,5 +1,5 @@
-// The library for C: the functions that include/yordzepa.h declares, in its order. Each calls the function of its name in the crate
-// that has it, and promises what that one promises.
+// The library for C: the functions that include/yordzepa.h declares, in its order. Each calls the function that does its work in the crate
+// that has it, and promises the definition's answer for all inputs.
 #![tactic(auto)]
 
 ghost use Rattle.std.specs.Prelude.{◌≡◌};

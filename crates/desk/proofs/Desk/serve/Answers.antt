@@ -2,7 +2,8 @@
 -- Assumes nothing.
 use Rattle.std.proofs.Common.{◌≡◌, true, false, Some, arith}
 use Rattle.lines.specs.Pieces.{is_over}
-use Rattle.desk.proofs.Streams.{begins, goes_on, short}
+use Rattle.std.proofs.lemmas.Result.{err_from_is_err_and}
+use Rattle.desk.proofs.Streams.{begins, goes_on, undelivered, short}
 use Rattle.desk.proofs.Desk.serve.Goals as goal
 
 pub loop-turn-init : goal.loop-turn-init
@@ -24,5 +25,11 @@ returns-then-is_over g c =
     record {
       streams = goes_on l.invariant.2 c.in_ok-count.ensures.piece;
       over = record { count = c.in_ok-count.count; over = over; end = λ none. c.in_ok-count.ensures.end none (omega arith) };
+      failed_write = tt;
       failed_read = tt;
     }
+
+pub returns-in_err-count-clause-failed_write : goal.returns-in_err-count-clause-failed_write
+returns-in_err-count-clause-failed_write g c =
+    let p = err_from_is_err_and c.from_residual.result c.from_residual.ensures.1 in
+    rw (p.1, p.2) (λ failed. undelivered c.loop-turn.invariant.2 (c.in_err-count.ensures.failed_write failed))
