@@ -1,6 +1,6 @@
 -- What is read and written from one piece to the next, and at the end.
 -- Assumes nothing.
-use Rattle.std.proofs.Common.{◌≡◌, refl, sym, ap, subst, append-nil, ◌∙◌, true, false, true≢false, List, [], ◌∷◌, ◌++◌, ℕ, zero, suc, ◌≤◌, ◌<◌, length, Some, None, IfSome, arith, leb}
+use Rattle.std.proofs.Common.{◌≡◌, refl, sym, ap, subst, ◌∙◌, true, false, true≢false, List, [], ◌∷◌, ◌++◌, ℕ, zero, suc, ◌≤◌, ◌<◌, length, Some, None, IfSome, arith, leb}
 use Rattle.std.specs.declared.option.Option.{Option}
 use mathlib.Core.Logic.{⊎_elim}
 use borrow.Author.Tests.{leb-false}
@@ -11,25 +11,30 @@ use Rattle.record_kinds.specs.Kinds.{known, places}
 use Rattle.record_kinds.proofs.Fields.{start_le}
 use Rattle.line_text.specs.Text.{last_line}
 use Rattle.lines.specs.Program.{record_length, first_record, zero_book, program_text}
-use Rattle.lines.specs.Pieces.{is_awaited, is_over}
+use Rattle.lines.specs.Pieces.{served_all, is_awaited, is_over, Reached}
 use Rattle.lines.proofs.Program.{reached_begins, reached_on, reached_ends}
-use Rattle.desk.specs.Streams.{Piece, Unread, Unwritten, Between, Undelivered, Over}
+use Rattle.desk.specs.Streams.{ServesHeld, Piece, Unwritten, Between, Undelivered, Over}
 
 -- a run begins with nothing read and nothing written
 pub begins : (left holds : Option (List ℕ)) → Between left left holds holds zero_book [] 1
 unfolding first_record
 begins left holds = record { input = []; written = []; reached = reached_begins; consumed = Consumes-nil left; appended = Appends-nil holds; served = refl }
 
+-- what was held, with what came behind it, is served
+onward : {input written b held b' lines held' : List ℕ} {place place' : ℕ} (got : List ℕ)
+    → Reached input written b held place
+    → ServesHeld b (held ++ got) place b' lines held' place'
+    → Reached (input ++ got) (written ++ (served_all b place (held ++ got)).text) b' held' place'
+onward {held = held} got r s = rw (← s.books, ← s.places, ← s.rest) at (reached_on r got (held ++ got) refl)
+
 -- a piece more
 pub goes_on : {left₀ left left' holds₀ holds holds' : Option (List ℕ)} {b held b' held' : List ℕ} {place place' : ℕ}
     → Between left₀ left holds₀ holds b held place
     → Piece left left' holds holds' b held place b' held' place'
     → Between left₀ left' holds₀ holds' b' held' place'
-goes_on {left₀} {left} {left'} {holds₀} {holds} {holds'} {held = held} r p =
+goes_on {left₀} {left} {left'} {holds₀} {holds} {holds'} r p =
     let s = p.served in
-    let on = reached_on r.reached p.got (held ++ p.got) refl in
-    let reached = rw (← s.books, ← s.places, ← s.rest) at on in
-    record { input = _; written = _; reached = reached; consumed = Consumes-trans left₀ left left' _ _ r.consumed p.consumed; appended = Appends-trans holds₀ holds holds' _ _ r.appended (rw s.texts at p.appended); served = s.none }
+    record { input = _; written = _; reached = onward p.got r.reached s; consumed = Consumes-trans left₀ left left' _ _ r.consumed p.consumed; appended = Appends-trans holds₀ holds holds' _ _ r.appended (rw s.texts at p.appended); served = s.none }
 
 -- a run that read all that its reader had, or all before an unknown record, has written the text of the whole input
 pub ends : (left₀ left holds₀ holds holds' : Option (List ℕ)) (b rest : List ℕ) (place : ℕ)
@@ -64,22 +69,10 @@ short (k ∷ b) (suc n) h none =
     (λ (t : leb (record_length k) (length (k ∷ b)) ≡ false). omega (arith, leb-false (record_length k) (length (k ∷ b)) t, length_most k))
     (either (leb (record_length k) (length (k ∷ b))))
 
--- a read that failed
-pub stays : {left₀ left left' holds₀ holds holds' : Option (List ℕ)} {b held b' held' : List ℕ} {place place' : ℕ}
-    → Between left₀ left holds₀ holds b held place
-    → Unread left left' holds holds' b held place b' held' place'
-    → Between left₀ left' holds₀ holds' b' held' place'
-stays {left₀} {left} {left'} {holds₀} {holds} {holds'} r u =
-    rw (u.books, u.rest, u.places)
-    (record { input = r.input; written = r.written; reached = r.reached; consumed = rw (append-nil r.input) at (Consumes-trans left₀ left left' _ _ r.consumed u.consumed); appended = rw (append-nil r.written) at (Appends-trans holds₀ holds holds' _ _ r.appended u.appended); served = r.served })
-
--- a write that failed
+-- a write that failed comes after a piece that was served
 pub undelivered : {left₀ left left' holds₀ holds : Option (List ℕ)} {b held b' held' : List ℕ} {place place' : ℕ}
     → Between left₀ left holds₀ holds b held place
     → Unwritten left left' b held place b' held' place'
     → Undelivered left₀ left' b' held' place'
-undelivered {left₀} {left} {left'} {held = held} r p =
-    let s = p.served in
-    let on = reached_on r.reached p.got (held ++ p.got) refl in
-    let reached = rw (← s.books, ← s.places, ← s.rest) at on in
-    record { input = _; written = _; reached = reached; consumed = Consumes-trans left₀ left left' _ _ r.consumed p.consumed }
+undelivered {left₀} {left} {left'} r p =
+    record { input = _; text = _; reached = onward p.got r.reached p.served; consumed = Consumes-trans left₀ left left' _ _ r.consumed p.consumed }

@@ -54,11 +54,12 @@ pub record Between (left₀ left holds₀ holds : Option (List ℕ)) (book held 
   pub appended : Appends holds₀ holds written
   pub served : 0 ≡ first_record held
 
--- a run that stopped at a write that failed: the input that the reader gave leads to this book, this place and what is held
+-- a run that stopped at a write that failed: an input that the reader gave leads to this book, this place and what is held, with the text of
+-- its lines, of which the writer may have taken less
 pub record Undelivered (left₀ left : Option (List ℕ)) (book held : List ℕ) (place : ℕ) : Type 0 where
   pub input : List ℕ
-  pub written : List ℕ
-  pub reached : Reached input written book held place
+  pub text : List ℕ
+  pub reached : Reached input text book held place
   pub consumed : Consumes left₀ left input
 
 -- nothing is to be read any more: the reader is at its end, or an unknown record is held, by what the last read gave

@@ -111,8 +111,8 @@ impl Desk {
         requires { (self.old.book ≡ zero_book) × (self.old.input ≡ []) × (self.old.place ≡ 1) }
         ensures streams { OnOk result (Between (R.remaining reader.old) (R.remaining reader.new) (W.contents writer.old) (W.contents writer.new) self.new.book self.new.input self.new.place) }
         ensures over { OnOk result (Over (R.remaining reader.new) self.new.input) }
-        ensures failed_write { IfErr result (λ failure. failure ≡ Write → Undelivered (R.remaining reader.old) (R.remaining reader.new) self.new.book self.new.input self.new.place) }
         ensures failed_read { IfErr result (λ failure. failure ≡ Read → Between (R.remaining reader.old) (R.remaining reader.new) (W.contents writer.old) (W.contents writer.new) self.new.book self.new.input self.new.place) }
+        ensures failed_write { IfErr result (λ failure. failure ≡ Write → Undelivered (R.remaining reader.old) (R.remaining reader.new) self.new.book self.new.input self.new.place) }
     {
         for _turn in 0..READS {
             let count = self.serve_piece(reader, writer)?;

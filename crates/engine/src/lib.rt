@@ -67,6 +67,7 @@ fn outcome(book: &mut [u8], bytes: &[u8]) -> Result<Totals, Refusal>
     ensures value { answer_of result ≡ call_answer book.old bytes.now }
 {
     damage::check_call(book, bytes)?;
+    // Its length is tested: the steps take the array.
     let Some(book) = book.as_mut_array() else {
         return Err(Refusal::BookLength);
     };

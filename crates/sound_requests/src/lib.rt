@@ -36,8 +36,8 @@ fn is_sound_later(book: &Book, i: usize, j: usize) -> bool
         && book::get(book, Table::Cancels, i) <= 1
 }
 
-// A request's tables in two parts, each short enough for the compiler to unroll a loop over it.
-const TERM_TABLES: [Table; 7] = [
+// `REQUEST_TABLES` in two parts, each short enough for the compiler to unroll a loop over it.
+const FIRST_TABLES: [Table; 7] = [
     Table::Numbers,
     Table::RequestKinds,
     Table::Sides,
@@ -47,7 +47,7 @@ const TERM_TABLES: [Table; 7] = [
     Table::Amounts,
 ];
 
-const REST_TABLES: [Table; 8] = [
+const LAST_TABLES: [Table; 8] = [
     Table::Settlements,
     Table::Closings,
     Table::References,
@@ -64,7 +64,7 @@ fn is_blank_row(book: &Book, i: usize) -> bool
     requires { i < 256 }
     ensures { result ≡ row_blank (state book.now) request_tables i }
 {
-    row_tests::is_blank(book, &TERM_TABLES, i) && row_tests::is_blank(book, &REST_TABLES, i)
+    row_tests::is_blank(book, &FIRST_TABLES, i) && row_tests::is_blank(book, &LAST_TABLES, i)
 }
 
 // Do sixteen rows hold nothing, in each of some tables?
